@@ -1,0 +1,4 @@
+pub mod FractionLaws
+pub mod SumHeights
+pub mod Exits
+pub mod Loops

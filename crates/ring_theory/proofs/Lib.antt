@@ -1,0 +1,11 @@
+pub mod RingExpr
+pub mod RingSolver
+pub mod RingReify
+pub mod IntegerLaws
+pub mod GcdLaws
+pub mod Lowest
+pub mod RationalLaws
+pub mod Sums
+pub mod HeightLaws
+pub mod ValueSet
+pub mod StandardFacts

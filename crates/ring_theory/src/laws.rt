@@ -1,0 +1,18 @@
+//! The laws, each as the contract of a function with nothing to do.
+
+ghost use Rattle.ring_theory.specs.Laws.{IntegersAreRing, RationalsAreField, RationalsAreScalars};
+
+/// The whole numbers are a commutative ring.
+pub fn integers_are_ring()
+    ensures { IntegersAreRing }
+{}
+
+/// The rational numbers in lowest terms are a field.
+pub fn rationals_are_field()
+    ensures { RationalsAreField }
+{}
+
+/// The rational numbers contain themselves, 1 differs from 0, and the test for zero tells.
+pub fn rationals_are_scalars()
+    ensures { RationalsAreScalars }
+{}
