@@ -1,0 +1,6 @@
+//! Changes of coordinates.
+#![tactic(auto)]
+
+mod change;
+
+pub use change::Change;
