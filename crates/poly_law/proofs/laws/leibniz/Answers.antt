@@ -1,0 +1,8 @@
+use Rattle.poly_law.proofs.LawsOverRings as over_rings
+use Rattle.poly_law.proofs.laws.leibniz.Goals as goal
+
+pub returns : goal.returns
+returns g c a valid =
+    let s = (g.R.Ring.meaning a).scalars in
+    let l = (g.met.R.Ring.laws a valid).numbers in
+    over_rings.leibniz s.ops l.ring
