@@ -6,7 +6,8 @@ use Rattle.line_syntax.specs.Syntax as syntax
 use Rattle.line_syntax.proofs.Parsing as parsing
 use Rattle.line_syntax.proofs.Parsing.{Left, Before, Place, place, expr_of, term_of, atom_wanted, atom_seen, exponent_wanted, divisor_wanted, term_seen, step, run, run_none, read_expr, seen_expr, in_expr, expr_in, are_divisors}
 use Rattle.line_reader.specs.Steps.{step_of}
-use Rattle.line_reader.specs.Calculation.{Arithmetic, with_sign, expr_value, term_value, factor_value, atom_value, Frame, frame, State, wanted, seen, exponent, divisor, term, times, signed_value, total, closed, on_term, on_step, on_steps, outcome, calculation_start}
+use Rattle.line_syntax.specs.Value.{Arithmetic, with_sign, expr_value, term_value, factor_value, atom_value}
+use Rattle.line_reader.specs.Calculation.{Frame, frame, State, wanted, seen, exponent, divisor, term, times, signed_value, total, closed, on_term, on_step, on_steps, outcome, calculation_start}
 use Rattle.line_reader.proofs.Held.{some_is, no_some}
 
 module _ {V : Type 0} (k : Arithmetic V) (names : List Word) where

@@ -1,48 +1,8 @@
 -- Calculating a line's value over its steps, with the sums and products so far in place of trees.
 use Rattle.std.specs.Prelude.{ℕ, Bool, true, false, List, [], ◌∷◌, if◌then◌else◌, ◌==◌, Option, Some, None}
-use Rattle.std.specs.List.{position_or_len}
-use Rattle.std.specs.Str.{bytes_eq}
-use Rattle.line_syntax.specs.Syntax.{Word, Sign, plus, minus, Expr, Term, Factor, Atom, number_of}
-use Rattle.line_syntax.specs.Syntax as syntax
+use Rattle.line_syntax.specs.Value.{Arithmetic}
 use Rattle.line_reader.specs.declared.step.Step.{Step}
 use Rattle.line_reader.specs.declared.step.Step.TheVariants.{Variable, Number, Symbol}
-
--- the operations of a calculation
-pub record Arithmetic (V : Type 0) : Type 0 where
-  pub variable : ℕ → V
-  pub number : ℕ → V
-  pub neg : V → V
-  pub add : V → V → V
-  pub mul : V → V → V
-  pub over : V → ℕ → V
-  pub power : V → ℕ → V
-
-module _ {V : Type 0} (k : Arithmetic V) (names : List Word) where
-  -- v, or its opposite
-  abbrev pub with_sign : Sign → V → V
-  with_sign plus v = v
-  with_sign minus v = k.neg v
-
-  -- the value of an expression: its names are variables by their places in the list
-  abbrev mutual
-    pub expr_value : Expr → V
-    expr_value (syntax.first t) = term_value t
-    expr_value (syntax.signed s t) = with_sign s (term_value t)
-    expr_value (syntax.sum e s t) = k.add (expr_value e) (with_sign s (term_value t))
-
-    pub term_value : Term → V
-    term_value (syntax.factor f) = factor_value f
-    term_value (syntax.product t f) = k.mul (term_value t) (factor_value f)
-    term_value (syntax.quotient t d) = k.over (term_value t) (number_of d)
-
-    pub factor_value : Factor → V
-    factor_value (syntax.plain a) = atom_value a
-    factor_value (syntax.power a d) = k.power (atom_value a) (number_of d)
-
-    pub atom_value : Atom → V
-    atom_value (syntax.variable x) = k.variable (position_or_len (bytes_eq x) names)
-    atom_value (syntax.natural d) = k.number (number_of d)
-    atom_value (syntax.group e) = expr_value e
 
 -- the sum so far, the sign of the term that comes, and the product so far
 pub record Frame (V : Type 0) : Type 0 where
@@ -62,21 +22,21 @@ pub data State (V : Type 0) : Type 0 where
   divisor : List (Frame V) → Frame V → V → State V
   term : List (Frame V) → Frame V → V → State V
 
-module _ {V : Type 0} (k : Arithmetic V) where
+module _ {V : Type 0} (ops : Arithmetic V) where
   -- the product with one more factor
   abbrev pub times : Option V → V → V
   times None v = v
-  times (Some t) v = k.mul t v
+  times (Some t) v = ops.mul t v
 
   -- v, or its opposite where the sign is `-`
   abbrev pub signed_value : Bool → V → V
-  signed_value true v = k.neg v
+  signed_value true v = ops.neg v
   signed_value false v = v
 
   -- the sum with one more term
   abbrev pub plus_term : Option V → V → V
   plus_term None v = v
-  plus_term (Some e) v = k.add e v
+  plus_term (Some e) v = ops.add e v
 
   -- the sum of a frame with the signed term t
   abbrev pub total : Frame V → V → V
@@ -105,12 +65,12 @@ module _ {V : Type 0} (k : Arithmetic V) where
 
   -- the state after one step, if it may stand here
   abbrev pub on_step : State V → Step → Option (State V)
-  on_step (wanted stack f) (Variable i) = Some (seen stack f (k.variable i))
-  on_step (wanted stack f) (Number n) = Some (seen stack f (k.number n))
+  on_step (wanted stack f) (Variable i) = Some (seen stack f (ops.variable i))
+  on_step (wanted stack f) (Number n) = Some (seen stack f (ops.number n))
   on_step (wanted stack f) (Symbol c) = on_front stack f c
   on_step (seen stack f a) (Symbol c) = if c == 94 then Some (exponent stack f a) else on_term stack f (times f.product a) c
-  on_step (exponent stack f a) (Number n) = Some (term stack (frame f.sum f.minus None) (times f.product (k.power a n)))
-  on_step (divisor stack f t) (Number n) = Some (term stack f (k.over t n))
+  on_step (exponent stack f a) (Number n) = Some (term stack (frame f.sum f.minus None) (times f.product (ops.power a n)))
+  on_step (divisor stack f t) (Number n) = Some (term stack f (ops.over t n))
   on_step (term stack f t) (Symbol c) = on_term stack f t c
   on_step _ _ = None
 
