@@ -1,0 +1,76 @@
+//! Sources and sinks in memory, call by call, and the lines of an input. The expected values are
+//! counted by hand.
+use crate::{
+    CleanSource, MemSink, MemSource, Sink, Source, StdSink, StdSource, is_answered_line, line_in,
+    read_whole, split_piece, write_whole,
+};
+use std::test::*;
+
+const MEMORY: &str = "memory ran out";
+
+#[test]
+fn a_source_in_memory_call_by_call(rt: HostRuntime) -> Result<(), Fail> {
+    let mut source = MemSource::new(rt.alloc(), b"abcdefg", 3, &[2, 5]).map_err(|_| MEMORY)?;
+    let mut buf = [0u8; 4];
+    let wanted = [Some(3), None, Some(3), Some(1), None, Some(0)];
+    for count in wanted {
+        assert_eq!(rt; source.read(&mut buf).ok(), count);
+    }
+    let mut short = [0u8; 2];
+    let mut clean = CleanSource::new(rt.alloc(), b"abc").map_err(|_| MEMORY)?;
+    for count in [2, 1, 0] {
+        assert_eq!(rt; clean.read(&mut short).ok(), Some(count));
+    }
+    Ok(())
+}
+
+#[test]
+fn a_sink_in_memory_call_by_call(rt: HostRuntime) -> Result<(), Fail> {
+    let mut sink = MemSink::new(rt.alloc(), 5, 2, &[3]).map_err(|_| MEMORY)?;
+    let wanted = [Some(2), Some(2), None, Some(1), Some(0)];
+    for count in wanted {
+        assert_eq!(rt; sink.write(b"xyz").ok(), count);
+    }
+    assert_eq!(rt; sink.bytes(), b"xyxyx".as_slice());
+    Ok(())
+}
+
+#[test]
+fn whole_inputs_and_texts(rt: HostRuntime) -> Result<(), Fail> {
+    let mut source = StdSource::new(b"a line\n".as_slice());
+    let input = read_whole(rt.alloc(), &mut source)?;
+    assert_eq!(rt; input.as_slice(), b"a line\n".as_slice());
+    let mut sink = StdSink::new(Vec::new(rt.alloc()));
+    write_whole(&mut sink, &input)?;
+    let mut room = MemSink::new(rt.alloc(), 4, 1, &[]).map_err(|_| MEMORY)?;
+    assert!(rt; write_whole(&mut room, &input).is_err());
+    assert_eq!(rt; room.bytes(), b"a li".as_slice());
+    Ok(())
+}
+
+#[test]
+fn pieces_and_answered_lines(rt: HostRuntime) {
+    let cases = [
+        (
+            b"x^2\nx".as_slice(),
+            b"x^2".as_slice(),
+            true,
+            b"x".as_slice(),
+        ),
+        (b"x^4\r\r\n", b"x^4\r", true, b""),
+        (b"x\r", b"x", true, b""),
+        (b"\r\n\n", b"", false, b"\n"),
+        (b" \t", b" \t", false, b""),
+        (b"\t # x\nx", b"\t # x", false, b"x"),
+        (b"\0\xff", b"\0\xff", true, b""),
+    ];
+    for (input, line, answered, rest) in cases {
+        if input.is_empty() {
+            continue;
+        }
+        let (piece, after) = split_piece(input);
+        assert_eq!(rt; line_in(piece), line);
+        assert_eq!(rt; is_answered_line(line), answered);
+        assert_eq!(rt; after, rest);
+    }
+}
