@@ -11,40 +11,40 @@ use Rattle.line_reader.specs.Calculation.{Frame, frame, State, wanted, seen, exp
 use Rattle.line_reader.proofs.Held.{some_is, no_some}
 
 module _ {V : Type 0} (k : Arithmetic V) (names : List Word) where
-  abbrev is_minus : Sign → Bool
+  abbrev pub is_minus : Sign → Bool
   is_minus plus = false
   is_minus minus = true
 
-  abbrev sum_of : Left → Option V
+  abbrev pub sum_of : Left → Option V
   sum_of parsing.start = None
   sum_of (parsing.lead s) = None
   sum_of (parsing.after e s) = Some (expr_value k names e)
 
-  abbrev minus_of : Left → Bool
+  abbrev pub minus_of : Left → Bool
   minus_of parsing.start = false
   minus_of (parsing.lead s) = is_minus s
   minus_of (parsing.after e s) = is_minus s
 
-  abbrev product_of : Before → Option V
+  abbrev pub product_of : Before → Option V
   product_of parsing.nothing = None
   product_of (parsing.times t) = Some (term_value k names t)
 
-  abbrev frame_at : Left → Before → Frame V
+  abbrev pub frame_at : Left → Before → Frame V
   frame_at l b = frame (sum_of l) (minus_of l) (product_of b)
 
-  abbrev frames : List Place → List (Frame V)
+  abbrev pub frames : List Place → List (Frame V)
   frames [] = []
   frames (p ∷ stack) = frame_at p.left p.before ∷ frames stack
 
   -- the parse with values in place of trees
-  abbrev state_of : parsing.State → State V
+  abbrev pub state_of : parsing.State → State V
   state_of (atom_wanted stack p) = wanted (frames stack) (frame_at p.left p.before)
   state_of (atom_seen stack p a) = seen (frames stack) (frame_at p.left p.before) (atom_value k names a)
   state_of (exponent_wanted stack p a) = exponent (frames stack) (frame_at p.left p.before) (atom_value k names a)
   state_of (divisor_wanted stack l t) = divisor (frames stack) (frame_at l parsing.nothing) (term_value k names t)
   state_of (term_seen stack l t) = term (frames stack) (frame_at l parsing.nothing) (term_value k names t)
 
-  signed_is : (s : Sign) (v : V) → signed_value k (is_minus s) v ≡ with_sign k names s v
+  pub signed_is : (s : Sign) (v : V) → signed_value k (is_minus s) v ≡ with_sign k names s v
   signed_is plus v = refl
   signed_is minus v = refl
 
@@ -53,12 +53,12 @@ module _ {V : Type 0} (k : Arithmetic V) (names : List Word) where
   total_is (parsing.lead s) b t = signed_is s (term_value k names t)
   total_is (parsing.after e s) b t = ap (k.add (expr_value k names e)) (signed_is s (term_value k names t))
 
-  times_is : (b : Before) (f : Factor) → times k (product_of b) (factor_value k names f) ≡ term_value k names (term_of b f)
+  pub times_is : (b : Before) (f : Factor) → times k (product_of b) (factor_value k names f) ≡ term_value k names (term_of b f)
   times_is parsing.nothing f = refl
   times_is (parsing.times t) f = refl
 
   -- what a parse step does, on values
-  abbrev Follows : Option (State V) → Option parsing.State → Type 0
+  abbrev pub Follows : Option (State V) → Option parsing.State → Type 0
   Follows v None = Unit {0}
   Follows v (Some s) = v ≡ Some (state_of s)
 
@@ -116,7 +116,7 @@ module _ {V : Type 0} (k : Arithmetic V) (names : List Word) where
       by false false l b = tt
 
   -- one token
-  stepped : (s : parsing.State) (t : Token) → Follows (on_step k (state_of s) (step_of names t)) (step s t)
+  pub stepped : (s : parsing.State) (t : Token) → Follows (on_step k (state_of s) (step_of names t)) (step s t)
   stepped (atom_wanted stack p) (name x) = refl
   stepped (atom_wanted stack p) (number d) = refl
   stepped (atom_wanted stack p) (symbol c) = both (c == 40) _ _ _ _ (λ q. refl) (λ q. leading stack p.left p.before c)

@@ -1,6 +1,7 @@
 -- Calculating a line's value over its steps, with the sums and products so far in place of trees.
-use Rattle.std.specs.Prelude.{ℕ, Bool, true, false, List, [], ◌∷◌, if◌then◌else◌, ◌==◌, Option, Some, None}
+use Rattle.std.specs.Prelude.{ℕ, Bool, true, false, List, [], ◌∷◌, if◌then◌else◌, ◌==◌, Option, Some, None, ◌≡◌, ◌⊎◌}
 use Rattle.line_syntax.specs.Value.{Arithmetic}
+use Rattle.line_syntax.specs.High.{HighOperations, IsPowerHigh}
 use Rattle.line_reader.specs.declared.step.Step.{Step}
 use Rattle.line_reader.specs.declared.step.Step.TheVariants.{Variable, Number, Symbol}
 
@@ -91,3 +92,45 @@ module _ {V : Type 0} (ops : Arithmetic V) where
 -- the state before an expression
 abbrev pub calculation_start : {V : Type 0} → State V
 calculation_start = wanted [] (frame None false None)
+
+-- which steps of a calculation go through a high operation
+module _ {V : Type 0} (ops : Arithmetic V) (high : HighOperations V) where
+  -- the product with one more factor is high
+  abbrev pub IsTimesHigh : Option V → V → Type 0
+  IsTimesHigh None v = ⊥
+  IsTimesHigh (Some t) v = high.product t v
+
+  -- the sum with one more term is high
+  abbrev pub IsPlusHigh : Option V → V → Type 0
+  IsPlusHigh None v = ⊥
+  IsPlusHigh (Some e) v = high.sum e v
+
+  -- the sum of a frame with the signed term t is high
+  abbrev pub IsTotalHigh : Frame V → V → Type 0
+  IsTotalHigh f t = IsPlusHigh f.sum (signed_value ops f.minus t)
+
+  -- a symbol after the term t that goes on with no product or quotient ends it, and the sum with it is high
+  abbrev pub IsEndHigh : Frame V → V → ℕ → Type 0
+  IsEndHigh f t c = ((c == 42) ≡ false) × ((c == 47) ≡ false) × IsTotalHigh f t
+
+  -- the step goes through a high operation
+  abbrev pub IsStepHigh : State V → Step → Type 0
+  IsStepHigh (seen stack f a) (Symbol c) = ((c == 94) ≡ false) × (IsTimesHigh f.product a ⊎ IsEndHigh f (times ops f.product a) c)
+  IsStepHigh (exponent stack f a) (Number n) = IsPowerHigh ops high a n ⊎ IsTimesHigh f.product (ops.power a n)
+  IsStepHigh (divisor stack f t) (Number n) = high.quotient t n
+  IsStepHigh (term stack f t) (Symbol c) = IsEndHigh f t c
+  IsStepHigh _ _ = ⊥
+
+  -- the value of an expression that ends here is reached through a high operation
+  abbrev pub IsOutcomeHigh : State V → Type 0
+  IsOutcomeHigh (seen stack f a) = IsTimesHigh f.product a ⊎ IsTotalHigh f (times ops f.product a)
+  IsOutcomeHigh (term stack f t) = IsTotalHigh f t
+  IsOutcomeHigh (wanted stack f) = ⊥
+  IsOutcomeHigh (exponent stack f a) = ⊥
+  IsOutcomeHigh (divisor stack f t) = ⊥
+
+  -- some step, or the end after them, goes through a high operation
+  abbrev pub IsRunHigh : Option (State V) → List Step → Type 0
+  IsRunHigh None xs = ⊥
+  IsRunHigh (Some s) [] = IsOutcomeHigh s
+  IsRunHigh (Some s) (x ∷ xs) = IsStepHigh s x ⊎ IsRunHigh (on_step ops s x) xs
