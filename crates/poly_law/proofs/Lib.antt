@@ -27,3 +27,5 @@ pub mod Inverse
 pub mod OneList
 pub mod QuotientSplit
 pub mod LawsOverRings
+pub mod Vanishing
+mod ComputedExamples

@@ -4,4 +4,5 @@ pub mod ExpList
 pub mod Poly
 pub mod Polynomials
 pub mod Laws
+pub mod Examples
 pub mod Sorted

@@ -4,4 +4,5 @@
 //! condition of finite determinacy and the truncated Milnor algebra. No definition names an element of the program, nor a bound on numbers.
 #![tactic(auto)]
 
+pub mod examples;
 pub mod laws;
