@@ -42,4 +42,3 @@ module _ {V : Type 0} (ops : Arithmetic V) (names : List Word) where
     atom_value (syntax.variable x) = ops.variable (position_or_len (bytes_eq x) names)
     atom_value (syntax.natural d) = ops.number (number_of d)
     atom_value (syntax.group e) = expr_value e
-
