@@ -1,0 +1,3 @@
+pub mod ExtensionLaws
+pub mod ExtensionFields
+pub mod ExtensionScalarLaws
