@@ -1,6 +1,12 @@
 //! Reports, and their text.
 #![tactic(auto)]
 
+mod carrying;
+mod evidence;
 mod report;
+mod word;
+mod wording;
+mod writing;
 
 pub use report::{Answer, Carried, Limit, Named, Outside, Phase, Report, Unresolved};
+pub use writing::write_report;
