@@ -3,5 +3,7 @@
 #![tactic(auto)]
 
 mod exponent;
+mod number;
 
-pub use exponent::{Exp, degree};
+pub use exponent::{Exp, before, degree, quotient, times, weight};
+pub use number::{rank, unrank};
