@@ -1,0 +1,4 @@
+pub mod High
+pub mod Gather
+pub mod CanonicalLemmas
+pub mod TermLemmas
