@@ -1,1 +1,2 @@
-pub mod AlgebraLaws
+pub mod SmallSums
+pub mod Components

@@ -1,2 +1,5 @@
 pub mod Fractions
 pub mod Algebra
+pub mod AlgebraLaws
+pub mod ExtRing
+pub mod ExtRingLaws
