@@ -132,7 +132,7 @@ module _ {V : Type 0} (k : Arithmetic V) (names : List Word) where
   stepped (divisor_wanted stack l t) (name x) = tt
   stepped (divisor_wanted stack l t) (number d) = divided (nat_lt 0 (number_of d))
     where
-      divided : (b : Bool) → Follows (Some (term (frames stack) (frame_at l parsing.nothing) (k.over (term_value k names t) (number_of d)))) (cond b (Some (term_seen stack l (syntax.quotient t d))) None)
+      divided : (b : Bool) → Follows (cond b (Some (term (frames stack) (frame_at l parsing.nothing) (k.over (term_value k names t) (number_of d)))) None) (cond b (Some (term_seen stack l (syntax.quotient t d))) None)
       divided true = refl
       divided false = tt
   stepped (divisor_wanted stack l t) (symbol c) = tt

@@ -1,5 +1,5 @@
 -- Calculating a line's value over its steps, with the sums and products so far in place of trees.
-use Rattle.std.specs.Prelude.{ℕ, Bool, true, false, List, [], ◌∷◌, if◌then◌else◌, ◌==◌, Option, Some, None, ◌≡◌, ◌⊎◌}
+use Rattle.std.specs.Prelude.{ℕ, Bool, true, false, List, [], ◌∷◌, if◌then◌else◌, ◌==◌, nat_lt, Option, Some, None, ◌≡◌, ◌⊎◌}
 use Rattle.line_syntax.specs.Value.{Arithmetic}
 use Rattle.line_syntax.specs.High.{HighOperations, IsPowerHigh}
 use Rattle.line_reader.specs.declared.step.Step.{Step}
@@ -71,7 +71,7 @@ module _ {V : Type 0} (ops : Arithmetic V) where
   on_step (wanted stack f) (Symbol c) = on_front stack f c
   on_step (seen stack f a) (Symbol c) = if c == 94 then Some (exponent stack f a) else on_term stack f (times f.product a) c
   on_step (exponent stack f a) (Number n) = Some (term stack (frame f.sum f.minus None) (times f.product (ops.power a n)))
-  on_step (divisor stack f t) (Number n) = Some (term stack f (ops.over t n))
+  on_step (divisor stack f t) (Number n) = if nat_lt 0 n then Some (term stack f (ops.over t n)) else None
   on_step (term stack f t) (Symbol c) = on_term stack f t c
   on_step _ _ = None
 

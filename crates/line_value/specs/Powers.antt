@@ -1,0 +1,9 @@
+-- What is asked of powers.
+use Rattle.std.specs.Prelude.{◌≡◌, ℕ, ◌+◌}
+use Rattle.line_syntax.specs.Value.{Arithmetic}
+
+-- v^0 = 1, v^1 = v, and v^(a + b) = v^a * v^b
+pub record PowerLaws {V : Type 0} (ops : Arithmetic V) : Type 0 where
+  pub none : (v : V) → ops.power v 0 ≡ ops.number 1
+  pub one : (v : V) → ops.power v 1 ≡ v
+  pub together : (v : V) (a b : ℕ) → ops.power v (a + b) ≡ ops.mul (ops.power v a) (ops.power v b)
