@@ -1,0 +1,5 @@
+pub mod Monomials
+pub mod Families
+pub mod Patterns
+pub mod Units
+pub mod Forms
