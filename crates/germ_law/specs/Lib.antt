@@ -1,1 +1,3 @@
 pub mod Germ
+pub mod Reading
+pub mod Jets
