@@ -1,0 +1,4 @@
+pub mod Polynomials
+pub mod Items
+pub mod Valid
+pub mod Right

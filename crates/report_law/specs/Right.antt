@@ -1,0 +1,100 @@
+-- Which report is right for a line and an order limit, and what a run writes.
+use Rattle.std.specs.Prelude.{◌≡◌, ℕ, ◌≤◌, ◌<◌, IsTrue, List, ◌++◌, length, take, min, flat_map, nat_le, if◌then◌else◌}
+use Rattle.std.specs.List.{AllZip}
+use Rattle.ring_theory.specs.Rational.{Rational, rational_ops}
+use Rattle.ring_theory.specs.Ring.{RingOps}
+use Rattle.ring_law.specs.Fraction.{frac_value}
+use Rattle.poly_law.specs.Sums.{power}
+use Rattle.ext_algebra.specs.declared.algebra.Algebra.{Algebra}
+use Rattle.ext_algebra.specs.declared.algebra.Algebra.TheVariants as algebras
+use Rattle.line_syntax.specs.Syntax.{Line}
+use Rattle.line_syntax.specs.Grammar.{Spells, has_small_literals}
+use Rattle.germ_law.specs.Germ.{IsCritical, line_limit}
+use Rattle.cert_text.specs.declared.report.Carried.{Carried}
+use Rattle.cert_text.specs.declared.report.Phase.TheVariants as phases
+use Rattle.cert_text.specs.declared.report.Phase.{Phase}
+use Rattle.cert_text.specs.declared.report.Answer.{Answer}
+use Rattle.cert_text.specs.declared.report.Answer.TheVariants as answers
+use Rattle.cert_text.specs.declared.report.Report.{Report}
+use Rattle.cert_text.specs.declared.report.Report.TheVariants as reports
+use Rattle.cert_text.specs.Text.{report_text}
+use Rattle.report_law.specs.Items.{IsSyntaxRefusal, IsLiteralRefusal}
+use Rattle.report_law.specs.Valid.{IsValidAnswer}
+use Rattle.cert_text.specs.WellFormed.{IsWellFormed}
+
+-- the highest order that is tried in n variables
+abbrev pub order_limit : ℕ → ℕ → ℕ
+order_limit limit n = if nat_le n 4 then limit else min limit 12
+
+abbrev q : RingOps Rational
+q = rational_ops
+
+-- the modulus of the algebra has no rational root
+abbrev pub HasNoRoot : Algebra → Type 0
+HasNoRoot algebras.Rational = Unit {0}
+HasNoRoot (algebras.Quadratic m1 m0) = (x : Rational) → q.add (q.add (power q x 2) (q.mul (frac_value m1) x)) (frac_value m0) ≡ q.zero → ⊥
+HasNoRoot (algebras.Cubic m2 m1 m0) = (x : Rational)
+    → q.add (q.add (q.add (power q x 3) (q.mul (frac_value m2) (power q x 2))) (q.mul (frac_value m1) x)) (frac_value m0) ≡ q.zero → ⊥
+
+-- the line is in the grammar, with small numbers
+pub record IsRead (bytes : List ℕ) : Type 0 where
+  pub line : Line
+  pub spells : Spells bytes line
+  pub small : IsTrue (has_small_literals line)
+
+-- some line that the bytes spell is critical
+abbrev pub IsCriticalLine : List ℕ → Type 0
+IsCriticalLine bytes = (l : Line) × IsCritical bytes l
+
+-- the order is at most the limit, and the algebra is a field
+pub record IsWithin (limit : ℕ) (c : Carried) : Type 0 where
+  pub order : c.order ≤ order_limit limit (length c.names)
+  pub field : HasNoRoot c.algebra
+
+-- what `range` says in this phase: the line is in the grammar; past its reading, it is critical
+abbrev pub IsRangeOf : List ℕ → Phase → Type 0
+IsRangeOf bytes phases.Line = IsRead bytes
+IsRangeOf bytes phases.Hessian = IsCriticalLine bytes
+IsRangeOf bytes phases.Split = IsCriticalLine bytes
+IsRangeOf bytes phases.Shape = IsCriticalLine bytes
+IsRangeOf bytes phases.Kill = IsCriticalLine bytes
+IsRangeOf bytes phases.Mather = IsCriticalLine bytes
+IsRangeOf bytes phases.Finish = IsCriticalLine bytes
+IsRangeOf bytes phases.Milnor = IsCriticalLine bytes
+
+-- the answer to a line of at most 65,536 bytes is right; `IsUnbuilt` says which lines are not built yet
+abbrev pub IsRightAnswer : (List ℕ → Type 0) → List ℕ → ℕ → Answer → Type 0
+IsRightAnswer IsUnbuilt bytes limit (answers.Syntax column what) = IsSyntaxRefusal bytes column what
+IsRightAnswer IsUnbuilt bytes limit (answers.Literal column) = IsLiteralRefusal bytes column
+IsRightAnswer IsUnbuilt bytes limit (answers.NotCritical variable) = IsValidAnswer bytes (answers.NotCritical variable)
+IsRightAnswer IsUnbuilt bytes limit (answers.Range phase) = IsRangeOf bytes phase
+IsRightAnswer IsUnbuilt bytes limit (answers.Field algebra) = IsCriticalLine bytes
+IsRightAnswer IsUnbuilt bytes limit answers.Unbuilt = IsUnbuilt bytes
+IsRightAnswer IsUnbuilt bytes limit (answers.Named r) = IsValidAnswer bytes (answers.Named r) × IsWithin limit r.carried
+IsRightAnswer IsUnbuilt bytes limit (answers.Outside r) = IsValidAnswer bytes (answers.Outside r) × IsWithin limit r.carried
+IsRightAnswer IsUnbuilt bytes limit (answers.Limit r) =
+    IsValidAnswer bytes (answers.Limit r) × IsWithin limit r.carried × (r.carried.order ≡ order_limit limit (length r.carried.names))
+IsRightAnswer IsUnbuilt bytes limit (answers.Unresolved r) = IsValidAnswer bytes (answers.Unresolved r) × IsWithin limit r.carried
+
+-- it holds the line, unless this is too long, and says what is true of it
+abbrev pub SaysTruth : (List ℕ → Type 0) → List ℕ → ℕ → Report → Type 0
+SaysTruth IsUnbuilt bytes limit (reports.Long number) = (number ≡ length bytes) × (line_limit < length bytes)
+SaysTruth IsUnbuilt bytes limit (reports.Line held answer) = (length bytes ≤ line_limit) × (held ≡ bytes) × IsRightAnswer IsUnbuilt bytes limit answer
+
+-- the report is right for the line
+pub record IsRight (IsUnbuilt : List ℕ → Type 0) (limit : ℕ) (bytes : List ℕ) (r : Report) : Type 0 where
+  pub well_formed : IsWellFormed r
+  pub truthful : SaysTruth IsUnbuilt bytes limit r
+
+-- reports, each right for its line, one for each line in order
+abbrev pub AreRight : (List ℕ → Type 0) → ℕ → List (List ℕ) → List Report → Type 0
+AreRight IsUnbuilt limit lines reports = AllZip (IsRight IsUnbuilt limit) lines reports
+
+-- the bytes are the texts of right reports, one for each of the lines, in order
+abbrev pub IsClassification : (List ℕ → Type 0) → ℕ → List (List ℕ) → List ℕ → Type 0
+IsClassification IsUnbuilt limit lines written = (reports : List Report) × AreRight IsUnbuilt limit lines reports × (written ≡ flat_map report_text reports)
+
+-- the bytes are a front of the texts of right reports for the first n lines, for some n
+abbrev pub IsClassificationFront : (List ℕ → Type 0) → ℕ → List (List ℕ) → List ℕ → Type 0
+IsClassificationFront IsUnbuilt limit lines written =
+    (n : ℕ) × (reports : List Report) × (rest : List ℕ) × AreRight IsUnbuilt limit (take n lines) reports × (written ++ rest ≡ flat_map report_text reports)

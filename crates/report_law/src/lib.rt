@@ -1,0 +1,2 @@
+//! What a valid report and a right report are.
+#![tactic(auto)]
