@@ -4,3 +4,7 @@ pub mod Parts
 pub mod Causes
 pub mod Equality
 pub mod Squares
+pub mod RootLaws
+pub mod QuadraticRoots
+pub mod CubicRoots
+pub mod Constants

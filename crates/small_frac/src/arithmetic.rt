@@ -13,7 +13,7 @@ use ring_law::{Frac, Op, Range};
 const LIMIT: u128 = 0x7fff_ffff_ffff_ffff_ffff_ffff_ffff_ffff;
 
 // The greatest common divisor, by Euclid's algorithm.
-fn common_divisor(a: u128, b: u128) -> u128
+pub(crate) fn common_divisor(a: u128, b: u128) -> u128
     ensures { result ≡ gcd a b }
 {
     let mut x = a;

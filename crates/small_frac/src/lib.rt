@@ -3,8 +3,10 @@
 
 mod arithmetic;
 mod rationals;
+mod root;
 mod square;
 
 pub use arithmetic::{add, inv, make_frac, mul, neg};
 pub use rationals::Rationals;
+pub use root::{rational_root_cubic, rational_root_quadratic};
 pub use square::{int_root2, is_square};

@@ -1,0 +1,19 @@
+use Rattle.ring_law.proofs.Exits.{handed_on, refused_by}
+use Rattle.ring_theory.specs.Height.{rational_scalars}
+use Rattle.ring_theory.proofs.HeightLaws.{le_most}
+use Rattle.ring_theory.proofs.RationalLaws.{rational_laws}
+use Rattle.ring_theory.proofs.Sums.{two_high}
+use Rattle.small_frac.specs.Roots.{half_sum_height}
+use Rattle.small_frac.proofs.Constants.{half_valid}
+use Rattle.small_frac.proofs.root.half_sum.Goals as goal
+
+pub mul-requires-clause-right : goal.mul-requires-clause-right
+mul-requires-clause-right c = half_valid
+
+pub returns-in_err-sum-clause-cause : goal.returns-in_err-sum-clause-cause
+unfolding half_sum_height
+returns-in_err-sum-clause-cause c = handed_on _ c.from_residual.ensures.1 (λ high. le_most 0 _ (two_high rational_scalars rational_laws _ _ high)) c.in_err-sum.ensures.cause
+
+pub returns-clause-cause : goal.returns-clause-cause
+unfolding half_sum_height
+returns-clause-cause c = refused_by (λ high. le_most 1 _ (rw c.in_ok-sum.ensures.value at high)) c.mul.ensures.cause
