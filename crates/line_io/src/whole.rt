@@ -1,5 +1,5 @@
 //! An input that is read whole, and a text that is written whole.
-ghost use Rattle.line_io.specs.Bytes.{AppendsFront, ReadsWhole};
+ghost use Rattle.line_io.specs.Bytes.{AppendsFront, AppendsPart, ReadsWhole};
 ghost use Rattle.line_io.specs.Causes.{Rose};
 ghost use Rattle.std.specs.Io.KnownBytes.{Appends, Consumes, IsAtEnd};
 ghost use Rattle.std.specs.Prelude.{◌≡◌, ◌+◌, ◌≤◌, ◌<◌, ◌++◌, ℕ, List, length, IfOk, OnErr, OnOk, IsErrOf, ◌↔◌, vec_len};
@@ -62,19 +62,20 @@ pub fn read_whole<S: Source>(alloc: Global, source: &mut S) -> Result<Vec<u8>, R
 pub fn write_whole<W: Sink>(sink: &mut W, text: &[u8]) -> Result<(), WriteFault>
     ensures whole { OnOk result (Appends (W.taken sink.old) (W.taken sink.new) text.now) }
     ensures front { AppendsFront (W.taken sink.old) (W.taken sink.new) text.now }
+    ensures part { OnErr result (AppendsPart (W.taken sink.old) (W.taken sink.new) text.now) }
     ensures later { W.faults sink.old ≤ W.faults sink.new }
     ensures fault { OnErr result (Rose (W.faults sink.old) (W.faults sink.new)) }
 {
     let mut rest = text;
     while !rest.is_empty() {
-        let Ok(count) = sink.write(rest) else {
-            return Err(WriteFault);
-        };
-        if count == 0 {
-            return Err(WriteFault);
+        match sink.write(rest) {
+            Err(_) => return Err(WriteFault),
+            Ok(0) => return Err(WriteFault),
+            Ok(count) => {
+                let (_, after) = rest.split_at(count);
+                rest = after;
+            }
         }
-        let (_, after) = rest.split_at(count);
-        rest = after;
     }
     Ok(())
 }
