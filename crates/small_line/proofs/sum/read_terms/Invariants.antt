@@ -1,4 +1,4 @@
-use Rattle.std.proofs.Common.{◌≡◌, ◌++◌, length}
+use Rattle.std.proofs.Common.{◌≡◌, length}
 use Rattle.small_line.specs.Small.{parts_of, monomials_of}
 use Rattle.small_line.proofs.Sums.{with_front}
 use Rattle.small_line.proofs.sum.read_terms.Given as goal

@@ -1,0 +1,131 @@
+//! The rows of a certificate in one variable: Mather's row, the basis and the table.
+ghost use Rattle.std.specs.Prelude.{◌≡◌, ◌<◌, ◌≤◌, ◌≢◌, ◌-◌, IfOk, pos};
+ghost use Rattle.one_variable.specs.Answers.{mather_of, power, listed, unit_value, multiplier_of, multipliers_of, row_of, row_count, quotient_of};
+
+use crate::piece::{
+    one, power_of_u1, rational_element, reciprocal_of, single_term, whole_number, zero_polynomial,
+};
+use determinacy::MatherRow;
+use ext_algebra::Ext;
+use jet_poly::Jet;
+use milnor_alg::{JetQuotient, TableRow};
+use mono_exp::Exp;
+use ring_law::Frac;
+use sqlite_items::Items;
+use std::alloc::{AllocError, Global};
+
+/// Mather's row for `c*u1^m`: `u1^(m+1)` by the derivative; none where `m` is 2.
+#[tactic(auto, unfolding(crate::specs::Answers::mather_of))]
+pub fn mather_rows(alloc: Global, m: u8, c: i64) -> Result<Items<MatherRow<Ext<Frac>>>, AllocError>
+    requires order { m ≤ 12 }
+    requires unit { c ≢ pos 0 }
+    ensures { IfOk result (λ rows. rows ≡ mather_of m c) }
+{
+    if m == 2 {
+        return Ok(Items::new(alloc));
+    }
+    let multiplier = single_term(alloc, m, reciprocal_of(m, c), 2)?;
+    let row = MatherRow {
+        monomial: power_of_u1(m + 1),
+        multipliers: one(alloc, multiplier)?,
+    };
+    one(alloc, row)
+}
+
+fn basis(alloc: Global, count: u8) -> Result<Items<Exp>, AllocError>
+    ensures { IfOk result (λ basis. basis ≡ listed power 0 count) }
+{
+    let mut basis = Items::new(alloc);
+    for e in 0..count {
+        basis.push(power_of_u1(e))?;
+    }
+    Ok(basis)
+}
+
+#[tactic(auto, unfolding(crate::specs::Answers::unit_value))]
+fn value_at(place: u8, i: u8) -> Ext<Frac>
+    ensures { result ≡ unit_value place i }
+{
+    if i == place {
+        rational_element(whole_number(1))
+    } else {
+        rational_element(whole_number(0))
+    }
+}
+
+fn row_values(alloc: Global, place: u8, count: u8) -> Result<Items<Ext<Frac>>, AllocError>
+    ensures { IfOk result (λ values. values ≡ listed (unit_value place) 0 count) }
+{
+    let mut values = Items::new(alloc);
+    for i in 0..count {
+        values.push(value_at(place, i))?;
+    }
+    Ok(values)
+}
+
+#[tactic(auto, unfolding(crate::specs::Answers::multiplier_of))]
+fn multiplier(alloc: Global, m: u8, q: Frac, e: u8) -> Result<Jet<Ext<Frac>>, AllocError>
+    requires order { 1 ≤ m }
+    ensures { IfOk result (λ jet. jet ≡ multiplier_of m q e) }
+{
+    if e < m - 1 {
+        Ok(zero_polynomial(alloc, m))
+    } else {
+        single_term(alloc, m, q, e - (m - 1))
+    }
+}
+
+fn multipliers(alloc: Global, m: u8, q: Frac, e: u8) -> Result<Items<Jet<Ext<Frac>>>, AllocError>
+    requires order { 1 ≤ m }
+    ensures { IfOk result (λ jets. jets ≡ multipliers_of m q e) }
+{
+    if m == 2 {
+        Ok(Items::new(alloc))
+    } else {
+        one(alloc, multiplier(alloc, m, q, e)?)
+    }
+}
+
+#[tactic(auto, unfolding(crate::specs::Answers::row_of))]
+fn row(alloc: Global, m: u8, q: Frac, e: u8) -> Result<TableRow<Ext<Frac>>, AllocError>
+    requires order { 1 ≤ m }
+    ensures { IfOk result (λ row. row ≡ row_of m q e) }
+{
+    Ok(TableRow {
+        monomial: power_of_u1(e),
+        values: row_values(alloc, e, m - 1)?,
+        multipliers: multipliers(alloc, m, q, e)?,
+    })
+}
+
+fn table(alloc: Global, m: u8, q: Frac, count: u8) -> Result<Items<TableRow<Ext<Frac>>>, AllocError>
+    requires order { 1 ≤ m }
+    ensures { IfOk result (λ rows. rows ≡ listed (row_of m q) 0 count) }
+{
+    let mut rows = Items::new(alloc);
+    for e in 0..count {
+        rows.push(row(alloc, m, q, e)?)?;
+    }
+    Ok(rows)
+}
+
+fn rows_needed(m: u8) -> u8
+    requires small { m ≤ 12 }
+    ensures { result ≡ row_count m }
+{
+    if m == 2 { 1 } else { m + 1 }
+}
+
+/// The basis 1, .., `u1^(m-2)` of the Milnor algebra of `c*u1^m`, and its table.
+#[tactic(auto, unfolding(crate::specs::Answers::quotient_of))]
+pub fn quotient(alloc: Global, m: u8, c: i64) -> Result<JetQuotient<Ext<Frac>>, AllocError>
+    requires unit { c ≢ pos 0 }
+    requires order { 1 ≤ m }
+    requires small { m ≤ 12 }
+    ensures { IfOk result (λ q. q ≡ quotient_of m c) }
+{
+    Ok(JetQuotient {
+        basis: basis(alloc, m - 1)?,
+        table: table(alloc, m, reciprocal_of(m, c), rows_needed(m))?,
+    })
+}
