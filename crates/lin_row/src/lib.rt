@@ -1,0 +1,14 @@
+//! Linear algebra over a field by sparse rows: elimination with evidence both ways.
+#![tactic(auto)]
+
+mod echelon;
+mod excluded;
+pub mod laws;
+mod line;
+mod plain;
+mod row;
+mod stage;
+mod systems;
+
+pub use row::{Row, Solution};
+pub use systems::{System, Way, make_system, solve, solve_in};
