@@ -1,0 +1,4 @@
+pub mod GatheredLemmas
+pub mod Output
+pub mod Steps
+pub mod Rows

@@ -1,1 +1,3 @@
 pub mod JetTerms
+pub mod Jets
+pub mod Gathered

@@ -4,6 +4,7 @@ ghost use Rattle.std.specs.Prelude.{◌≡◌, ◌<◌, ◌↔◌, IsTrue, [], l
 ghost use Rattle.jet_poly.specs.JetTerms.{IsRising};
 
 use mono_exp::Exp;
+use ring_law::Ring;
 use std::marker::Model;
 
 /// A polynomial in `n` variables up to degree `order`: its terms, in the monomial order, lower
@@ -24,6 +25,9 @@ impl<E> Model for Jet<E> {
 
     ghost invariant = { λ f. IsRising f.terms.items };
 }
+
+/// The jets over a ring.
+pub type JetOf<R> = Jet<<R as Ring>::Elem>;
 
 impl<E> Jet<E> {
     /// The jet with these terms, which stand in the monomial order. It takes no memory.

@@ -1,6 +1,12 @@
-//! Polynomials of bounded degree over any ring, as terms in the monomial order.
+//! Polynomials of bounded degree over any ring, as terms in the monomial order: sums, products,
+//! derivatives and truncations.
 #![tactic(auto)]
 
+mod collect;
+mod gather;
 mod jet;
+mod product;
 
-pub use jet::Jet;
+pub use collect::{add, from_terms};
+pub use jet::{Jet, JetOf};
+pub use product::mul_cut;

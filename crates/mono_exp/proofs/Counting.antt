@@ -279,7 +279,7 @@ places (suc n) (suc d) =
         ∙ sym (map-flat_map (λ k. count_below (suc n) d + k) (λ j. map place (monomials_of n j)) (numbers_below (suc d)))
         ∙ ap (map (λ k. count_below (suc n) d + k)) (sym (map-flat_map place (monomials_of n) (numbers_below (suc d))) ∙ rest)
 
-below_are_long : (n d : ℕ) → Each (λ m. length m ≡ n) (monomials_below n d)
+pub below_are_long : (n d : ℕ) → Each (λ m. length m ≡ n) (monomials_below n d)
 unfolding monomials_below
 below_are_long n d =
     each-flat_map (λ j. j < d) (λ m. length m ≡ n) (monomials_of n)
