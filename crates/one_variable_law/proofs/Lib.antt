@@ -1,0 +1,13 @@
+pub mod Powers
+pub mod Numerals
+pub mod SmallLines
+pub mod Germs
+pub mod Reciprocals
+pub mod Listed
+pub mod Carrying
+pub mod NamedHigh
+pub mod NamedLow
+pub mod Valid
+pub mod WellFormed
+pub mod Right
+pub mod Inputs
