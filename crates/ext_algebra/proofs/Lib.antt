@@ -1,2 +1,5 @@
 pub mod SmallSums
 pub mod Components
+pub mod CubicInverse
+pub mod AlgebraParts
+pub mod FieldInverses

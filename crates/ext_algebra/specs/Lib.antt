@@ -3,3 +3,5 @@ pub mod Algebra
 pub mod AlgebraLaws
 pub mod ExtRing
 pub mod ExtRingLaws
+pub mod ExtField
+pub mod ExtFieldLaws

@@ -2,8 +2,13 @@
 #![tactic(auto)]
 
 mod algebra;
+mod algebra_ring;
+mod field;
+pub mod inverse;
 pub mod product;
 mod ring;
 
 pub use algebra::{Algebra, Ext};
+pub use algebra_ring::AlgebraRing;
+pub use field::{ExtError, ExtField};
 pub use ring::ExtRing;
