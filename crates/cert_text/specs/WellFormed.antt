@@ -28,9 +28,9 @@ use Rattle.cert_text.specs.declared.report.Answer.TheVariants as answers
 use Rattle.cert_text.specs.declared.report.Report.{Report}
 use Rattle.cert_text.specs.declared.report.Report.TheVariants as reports
 
--- the name's bytes are one of the grammar, and zeros after it
+-- four bytes: a name of the grammar, and zeros after it
 abbrev pub is_valid_name : Name → Bool
-is_valid_name name = nat_le name.len 4 && (is_name (take name.len name.bytes) && list_all (λ b. b == 0) (drop name.len name.bytes))
+is_valid_name name = ((length name.bytes == 4) && nat_le name.len 4) && (is_name (take name.len name.bytes) && list_all (λ b. b == 0) (drop name.len name.bytes))
 
 -- the element is 0
 abbrev pub is_zero_element : Ext Frac → Bool

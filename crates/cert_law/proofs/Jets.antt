@@ -1,0 +1,371 @@
+-- One reading of a polynomial: its first term may be constant, and the others are not.
+use Rattle.std.proofs.Common.{◌≡◌, ℕ, ◌+◌, ◌<◌, ◌≤◌, ◌^◌, Bool, true, false, cond, eqb, ◌&&◌, pos, List, [], ◌∷◌, ◌++◌, length, refl, sym, ap, ◌∙◌, subst, arith, inl, inr}
+use Rattle.std.specs.Prelude.{codes, decimal, map}
+use Rattle.std.specs.List.{AllByRecursion, flat_map, list_all}
+use Rattle.std.proofs.lemmas.Bool.{eqb-true}
+use Rattle.std.proofs.lemmas.Bool.Decides.{Decides-int_eq}
+use Rattle.std.proofs.lemmas.List.{append-nil}
+use Rattle.std.proofs.lemmas.List.Concat.{flat_map-append}
+use Rattle.ring_law.specs.declared.fraction.Frac.{Frac}
+use Rattle.cert_law.specs.Fields.{Element}
+use Rattle.mono_exp.specs.declared.exponent.Exp.{Exp}
+use Rattle.cert_law.specs.Fields.{Term}
+use Rattle.poly_text.specs.Numbers.{is_zero_fraction, without_plus, components_text, scaled_text, signed_text}
+use Rattle.poly_text.specs.Polynomials.{is_one, new_names, term_in}
+use Rattle.cert_law.specs.Unique.{Starts}
+use Rattle.cert_law.specs.Fields.{IsBody, IsInside, EndsSum, Piece, IsPiece, piece_text, IsSmallElement, IsComponent, IsMonomial, IsTerm, IsHigher, IsPolynomial}
+use Rattle.cert_law.proofs.Elements.{pieces_of, pieces_are, pieces_tell, components_are, nonzero}
+use Rattle.cert_law.proofs.Monomials.{starred, starred_is, factors_from, present, raised, monomial_one, exponents_is}
+use Rattle.cert_law.proofs.Lumps.{Lump, Simple, Bracketed, lump_text, IsLump, lump_sum_one}
+use Rattle.cert_law.proofs.Terms.{lump_by, scaled_is}
+use Rattle.cert_law.proofs.Numbers.{digits, IsDigit, fraction_is}
+
+-- ---- the factors of a monomial that is not 1 are a body
+
+-- a body of a monomial: a star and a `u` at the front
+abbrev pub IsFactors : List ℕ → Type 0
+IsFactors [] = ⊥
+IsFactors (star ∷ []) = ⊥
+IsFactors (star ∷ c ∷ body) = (star ≡ 42) × (c ≡ 117) × AllByRecursion IsInside body
+
+inside_append : (xs ys : List ℕ) → AllByRecursion IsInside xs → AllByRecursion IsInside ys → AllByRecursion IsInside (xs ++ ys)
+inside_append [] ys p q = q
+inside_append (x ∷ xs) ys p q = (p.0, inside_append xs ys p.1 q)
+
+inside_digits : (ds : List ℕ) → AllByRecursion IsDigit ds → AllByRecursion IsInside ds
+inside_digits [] p = tt
+inside_digits (d ∷ ds) p = (inl (omega (arith, p.0.0)), inside_digits ds p.1)
+
+inside_raised : (t : Bool) (e : ℕ) → e < 10 ^ 64 → AllByRecursion IsInside (cond t [] (94 ∷ decimal e))
+inside_raised true e lt = tt
+inside_raised false e lt = (inl (omega arith), inside_digits (decimal e) (digits e lt))
+
+inside_factor : (t : Bool) (d e : ℕ) → 46 ≤ d → e < 10 ^ 64 → AllByRecursion IsInside (cond t [] (present d e))
+inside_factor true d e ld le = tt
+inside_factor false d e ld le = (inr refl, (inl (omega arith), (inl ld, inside_raised (eqb e 1) e le)))
+
+inside_factors : (d : ℕ) (es : List ℕ) → 46 ≤ d → AllByRecursion (λ e. e < 256) es → AllByRecursion IsInside (factors_from d es)
+inside_factors d [] ld fit = tt
+inside_factors d (e ∷ es) ld fit = inside_append (cond (eqb e 0) [] (present d e)) (factors_from (d + 1) es) (inside_factor (eqb e 0) d e ld (omega (arith, fit.0))) (inside_factors (d + 1) es (omega (arith, ld)) fit.1)
+
+front_step : (t : Bool) (d e : ℕ) (rest : List ℕ) (others : Bool) → 46 ≤ d → e < 10 ^ 64 → (t && others) ≡ false → AllByRecursion IsInside rest → (others ≡ false → IsFactors rest)
+    → IsFactors (cond t [] (present d e) ++ rest)
+front_step true d e rest others ld le some all later = later some
+front_step false d e rest others ld le some all later = (refl, refl, (inl ld, inside_append (raised (eqb e 1) e) rest (inside_raised (eqb e 1) e le) all))
+
+factors_front : (d : ℕ) (es : List ℕ) → 46 ≤ d → AllByRecursion (λ e. e < 256) es → list_all (λ e. eqb e 0) es ≡ false → IsFactors (factors_from d es)
+factors_front d [] ld fit some = absurd cc
+factors_front d (e ∷ es) ld fit some =
+    front_step (eqb e 0) d e (factors_from (d + 1) es) (list_all (λ e. eqb e 0) es) ld (omega (arith, fit.0)) some (inside_factors (d + 1) es (omega (arith, ld)) fit.1)
+    (λ q. factors_front (d + 1) es (omega (arith, ld)) fit.1 q)
+
+pub starred_front : (m : Exp) → IsMonomial m → is_one m ≡ false → IsFactors (starred m)
+starred_front m is some = subst IsFactors (sym (starred_is m is.eight)) (factors_front 49 m.e (omega arith) is.fit some)
+
+factors_body : (b : List ℕ) → IsFactors b → IsBody b
+factors_body [] f = absurd f
+factors_body (star ∷ []) f = absurd f
+factors_body (star ∷ c ∷ r) f = (f.0, omega (arith, f.1), f.2)
+
+factors_inside : (b : List ℕ) → IsFactors b → AllByRecursion IsInside b
+factors_inside [] f = absurd f
+factors_inside (star ∷ []) f = absurd f
+factors_inside (star ∷ c ∷ r) f = (inr f.0, (inl (omega (arith, f.1)), f.2))
+
+pub factors_is : (b : List ℕ) → IsFactors b → (r : List ℕ) × (b ≡ 42 ∷ 117 ∷ r)
+factors_is [] f = absurd f
+factors_is (star ∷ []) f = absurd f
+factors_is (star ∷ c ∷ r) f = (r, cc (f.0, f.1))
+
+-- ---- the coefficient and the factors of a lump
+
+abbrev zero_fraction : Frac
+zero_fraction = record { num = pos 0; den = pos 1 }
+
+abbrev Read : Type 0
+Read = Element × List ℕ
+
+abbrev as0 : Frac → Element
+as0 q = record { c0 = q; c1 = zero_fraction; c2 = zero_fraction }
+
+abbrev as1 : Frac → Element
+as1 q = record { c0 = zero_fraction; c1 = q; c2 = zero_fraction }
+
+abbrev as2 : Frac → Element
+as2 q = record { c0 = zero_fraction; c1 = zero_fraction; c2 = q }
+
+abbrev behind : List ℕ → List ℕ
+behind [] = []
+behind (b ∷ bs) = bs
+
+abbrev read_t : Frac → List ℕ → Read
+read_t q [] = (as1 q, [])
+read_t q (s ∷ r) = cond (eqb s 94) (as2 q, behind r) (as1 q, s ∷ r)
+
+abbrev decode : Lump → Read
+decode (Bracketed e b) = (e, b)
+decode (Simple q []) = (as0 q, [])
+decode (Simple q (s ∷ [])) = (as0 q, s ∷ [])
+decode (Simple q (s ∷ c ∷ r)) = cond (eqb c 116) (read_t q r) (as0 q, s ∷ c ∷ r)
+
+abbrev with_tests : Bool → Bool → Bool → Element → List Piece
+with_tests z0 z1 z2 e = cond z0 [] ((e.c0, []) ∷ []) ++ cond z1 [] ((e.c1, codes "*t") ∷ []) ++ cond z2 [] ((e.c2, codes "*t^2") ∷ [])
+
+abbrev paired : Element → List ℕ → Read
+paired e b = (e, b)
+
+read_is : (e f : Element) (b : List ℕ) → e.c0 ≡ f.c0 → e.c1 ≡ f.c1 → e.c2 ≡ f.c2 → paired e b ≡ paired f b
+read_is e f b p q r = λ i. (record { c0 = p i; c1 = q i; c2 = r i }, b)
+
+decodes : (z0 z1 z2 : Bool) (e : Element) (r : List ℕ) → (z0 ≡ true → zero_fraction ≡ e.c0) → (z1 ≡ true → zero_fraction ≡ e.c1) → (z2 ≡ true → zero_fraction ≡ e.c2)
+    → decode (lump_by (with_tests z0 z1 z2 e) e (42 ∷ 117 ∷ r)) ≡ paired e (42 ∷ 117 ∷ r)
+decodes true true true e r p q s = refl
+decodes false true true e r p q s = read_is (as0 e.c0) e (42 ∷ 117 ∷ r) refl (q refl) (s refl)
+decodes true false true e r p q s = read_is (as1 e.c1) e (42 ∷ 117 ∷ r) (p refl) refl (s refl)
+decodes true true false e r p q s = read_is (as2 e.c2) e (42 ∷ 117 ∷ r) (p refl) (q refl) refl
+decodes false false true e r p q s = refl
+decodes false true false e r p q s = refl
+decodes true false false e r p q s = refl
+decodes false false false e r p q s = refl
+
+zero_is : (q : Frac) → IsComponent q → is_zero_fraction q ≡ true → zero_fraction ≡ q
+zero_is q is z = let n = (Decides-int_eq q.num (pos 0)).0 z in fraction_is zero_fraction q (sym n) (sym (is.zero_form n))
+
+decoded : (e : Element) (b : List ℕ) → IsSmallElement e → IsFactors b → decode (lump_by (pieces_of e) e b) ≡ paired e b
+decoded e b is f =
+    let r = factors_is b f in
+    let made = decodes (is_zero_fraction e.c0) (is_zero_fraction e.c1) (is_zero_fraction e.c2) e r.0 (zero_is e.c0 is.c0) (zero_is e.c1 is.c1) (zero_is e.c2 is.c2) in
+    subst (λ (z : List ℕ). decode (lump_by (pieces_of e) e z) ≡ paired e z) (sym r.1) made
+
+-- ---- terms with factors
+
+abbrev lump_of : Term → Lump
+lump_of t = lump_by (pieces_of t.1) t.1 (starred t.0)
+
+term_is : (t u : Term) → t.0 ≡ u.0 → t.1 ≡ u.1 → t ≡ u
+term_is t u a b = λ i. (a i, b i)
+
+lump_tells : (t u : Term) → IsHigher t → IsHigher u → lump_of t ≡ lump_of u → t ≡ u
+lump_tells t u ot ou e =
+    let a = decoded t.1 (starred t.0) ot.term.coefficient (starred_front t.0 ot.term.monomial ot.higher) in
+    let b = decoded u.1 (starred u.0) ou.term.coefficient (starred_front u.0 ou.term.monomial ou.higher) in
+    let same : paired t.1 (starred t.0) ≡ paired u.1 (starred u.0) = sym a ∙ ap decode e ∙ b in
+    let m = monomial_one t.0 u.0 [] [] ot.term.monomial ou.term.monomial tt tt (ap (λ (z : Read). z.1 ++ []) same) in
+    term_is t u m.0 (ap (λ (z : Read). z.0) same)
+
+cons_is : {A : Type 0} (x y : A) (xs ys : List A) → x ∷ xs ≡ y ∷ ys → (x ≡ y) × (xs ≡ ys)
+cons_is x y xs ys e = (cc, cc)
+
+higher_tell : (ts us : List Term) → AllByRecursion IsHigher ts → AllByRecursion IsHigher us → map lump_of ts ≡ map lump_of us → ts ≡ us
+higher_tell [] [] ot ou e = refl
+higher_tell [] (u ∷ us) ot ou e = absurd cc
+higher_tell (t ∷ ts) [] ot ou e = absurd cc
+higher_tell (t ∷ ts) (u ∷ us) ot ou e =
+    let h = cons_is (lump_of t) (lump_of u) (map lump_of ts) (map lump_of us) e in
+    let first = lump_tells t u ot.0 ou.0 h.0 in
+    let others = higher_tell ts us ot.1 ou.1 h.1 in
+    cc (first, others)
+
+lump_by_is : (z0 z1 z2 : Bool) (e : Element) (b : List ℕ) → (z0 ≡ true → z1 ≡ true → z2 ≡ true → ⊥) → (z0 ≡ false → e.c0.num ≡ pos 0 → ⊥) → (z1 ≡ false → e.c1.num ≡ pos 0 → ⊥) → (z2 ≡ false → e.c2.num ≡ pos 0 → ⊥) → IsSmallElement e → IsFactors b
+    → IsLump (lump_by (with_tests z0 z1 z2 e) e b)
+lump_by_is true true true e b some n0 n1 n2 is f = absurd (some refl refl refl)
+lump_by_is false true true e b some n0 n1 n2 is f = record { small = is.c0.small; nonzero = n0 refl; factors = factors_body b f }
+lump_by_is true false true e b some n0 n1 n2 is f = record { small = is.c1.small; nonzero = n1 refl; factors = (refl, omega arith, factors_inside b f) }
+lump_by_is true true false e b some n0 n1 n2 is f = record { small = is.c2.small; nonzero = n2 refl; factors = (refl, omega arith, (inl (omega arith), (inl (omega arith), factors_inside b f))) }
+lump_by_is false false true e b some n0 n1 n2 is f = record { element = is; factors = factors_body b f }
+lump_by_is false true false e b some n0 n1 n2 is f = record { element = is; factors = factors_body b f }
+lump_by_is true false false e b some n0 n1 n2 is f = record { element = is; factors = factors_body b f }
+lump_by_is false false false e b some n0 n1 n2 is f = record { element = is; factors = factors_body b f }
+
+higher_lump : (t : Term) → IsHigher t → IsLump (lump_of t)
+higher_lump t is =
+    let e = t.1 in
+    lump_by_is (is_zero_fraction e.c0) (is_zero_fraction e.c1) (is_zero_fraction e.c2) e (starred t.0) is.term.nonzero (nonzero e.c0) (nonzero e.c1) (nonzero e.c2) is.term.coefficient (starred_front t.0 is.term.monomial is.higher)
+
+-- ---- polynomials without a constant term
+
+term_by : (t : Bool) (c s : List ℕ) → t ≡ false → cond t c s ≡ s
+term_by true c s e = absurd cc
+term_by false c s e = refl
+
+higher_text : (t : Term) → IsHigher t → term_in new_names t ≡ lump_text (lump_of t)
+unfolding term_in
+higher_text t is =
+    term_by (is_one t.0) (components_text t.1) (signed_text (scaled_text t.1 (starred t.0))) is.higher
+    ∙ scaled_is t.1 (starred t.0) is.term.nonzero is.term.coefficient.c1.small is.term.coefficient.c2.small (factors_inside (starred t.0) (starred_front t.0 is.term.monomial is.higher))
+
+higher_texts : (ts : List Term) → AllByRecursion IsHigher ts → flat_map (term_in new_names) ts ≡ flat_map lump_text (map lump_of ts)
+higher_texts [] is = refl
+higher_texts (t ∷ ts) is = ap (λ (z : List ℕ). z ++ flat_map (term_in new_names) ts) (higher_text t is.0) ∙ ap (λ (z : List ℕ). lump_text (lump_of t) ++ z) (higher_texts ts is.1)
+
+higher_lumps : (ts : List Term) → AllByRecursion IsHigher ts → AllByRecursion IsLump (map lump_of ts)
+higher_lumps [] is = tt
+higher_lumps (t ∷ ts) is = (higher_lump t is.0, higher_lumps ts is.1)
+
+-- ---- a constant term first
+
+abbrev simple : Piece → Lump
+simple p = Simple p.0 p.1
+
+abbrev first_lumps : Bool → Term → List Lump
+first_lumps one t = cond one (map simple (pieces_of t.1)) (lump_of t ∷ [])
+
+abbrev lumps_all : List Term → List Lump
+lumps_all [] = []
+lumps_all (t ∷ ts) = first_lumps (is_one t.0) t ++ map lump_of ts
+
+abbrev IsInner : Lump → Type 0
+IsInner l = (decode l).1 ≡ []
+
+abbrev IsOuter : Lump → Type 0
+IsOuter l = (decode l).1 ≡ [] → ⊥
+
+cut_lumps : (a b x y : List Lump) → AllByRecursion IsInner a → AllByRecursion IsInner b → AllByRecursion IsOuter x → AllByRecursion IsOuter y → a ++ x ≡ b ++ y → (a ≡ b) × (x ≡ y)
+cut_lumps [] [] x y ia ib ox oy e = (refl, e)
+cut_lumps [] (b ∷ bs) [] y ia ib ox oy e = absurd cc
+cut_lumps [] (b ∷ bs) (c ∷ cs) y ia ib ox oy e = absurd (ox.0 (ap (λ (l : Lump). (decode l).1) (cons_is c b cs (bs ++ y) e).0 ∙ ib.0))
+cut_lumps (a ∷ more) [] x [] ia ib ox oy e = absurd cc
+cut_lumps (a ∷ more) [] x (c ∷ cs) ia ib ox oy e = absurd (oy.0 (sym (ap (λ (l : Lump). (decode l).1) (cons_is a c (more ++ x) cs e).0) ∙ ia.0))
+cut_lumps (a ∷ more) (b ∷ bs) x y ia ib ox oy e =
+    let h = cons_is a b (more ++ x) (bs ++ y) e in
+    let r = cut_lumps more bs x y ia.1 ib.1 ox oy h.1 in
+    (cc (h.0, r.0), r.1)
+
+inner_by : (z0 z1 z2 : Bool) (e : Element) → AllByRecursion IsInner (map simple (with_tests z0 z1 z2 e))
+inner_by true true true e = tt
+inner_by false true true e = (refl, tt)
+inner_by true false true e = (refl, tt)
+inner_by true true false e = (refl, tt)
+inner_by false false true e = (refl, (refl, tt))
+inner_by false true false e = (refl, (refl, tt))
+inner_by true false false e = (refl, (refl, tt))
+inner_by false false false e = (refl, (refl, (refl, tt)))
+
+inner : (e : Element) → AllByRecursion IsInner (map simple (pieces_of e))
+inner e = inner_by (is_zero_fraction e.c0) (is_zero_fraction e.c1) (is_zero_fraction e.c2) e
+
+some_by : (z0 z1 z2 : Bool) (e : Element) → (z0 ≡ true → z1 ≡ true → z2 ≡ true → ⊥) → map simple (with_tests z0 z1 z2 e) ≡ [] → ⊥
+some_by true true true e some q = some refl refl refl
+some_by false true true e some q = cc
+some_by true false true e some q = cc
+some_by true true false e some q = cc
+some_by false false true e some q = cc
+some_by false true false e some q = cc
+some_by true false false e some q = cc
+some_by false false false e some q = cc
+
+outer : (t : Term) → IsHigher t → IsOuter (lump_of t)
+outer t is q =
+    let f = factors_is (starred t.0) (starred_front t.0 is.term.monomial is.higher) in
+    let d = decoded t.1 (starred t.0) is.term.coefficient (starred_front t.0 is.term.monomial is.higher) in
+    let nothing : 42 ∷ 117 ∷ f.0 ≡ [] = sym f.1 ∙ sym (ap (λ (z : Read). z.1) d) ∙ q in
+    cc
+
+all_outer : (ts : List Term) → AllByRecursion IsHigher ts → AllByRecursion IsOuter (map lump_of ts)
+all_outer [] is = tt
+all_outer (t ∷ ts) is = (outer t is.0, all_outer ts is.1)
+
+piece_is : (p q : Piece) → p.0 ≡ q.0 → p.1 ≡ q.1 → p ≡ q
+piece_is p q a b = λ i. (a i, b i)
+
+both : (a b : Bool) → (a && b) ≡ true → (a ≡ true) × (b ≡ true)
+both true b e = (refl, e)
+both false b e = absurd cc
+
+unsimple : (ps qs : List Piece) → map simple ps ≡ map simple qs → ps ≡ qs
+unsimple [] [] e = refl
+unsimple [] (q ∷ qs) e = absurd cc
+unsimple (p ∷ ps) [] e = absurd cc
+unsimple (p ∷ ps) (q ∷ qs) e =
+    let h = cons_is (simple p) (simple q) (map simple ps) (map simple qs) e in
+    let same : Simple p.0 p.1 ≡ Simple q.0 q.1 = h.0 in
+    let a : p.0 ≡ q.0 = cc in
+    let b : p.1 ≡ q.1 = cc in
+    let first : p ≡ q = piece_is p q a b in
+    let others = unsimple ps qs h.1 in
+    cc (first, others)
+
+pub zeros_same : (es fs : List ℕ) → length es ≡ length fs → list_all (λ e. eqb e 0) es ≡ true → list_all (λ e. eqb e 0) fs ≡ true → es ≡ fs
+zeros_same [] [] len a b = refl
+zeros_same [] (f ∷ fs) len a b = absurd (omega (arith, len))
+zeros_same (e ∷ es) [] len a b = absurd (omega (arith, len))
+zeros_same (e ∷ es) (f ∷ fs) len a b =
+    let p = both (eqb e 0) (list_all (λ e. eqb e 0) es) a in
+    let q = both (eqb f 0) (list_all (λ e. eqb e 0) fs) b in
+    let first : e ≡ f = eqb-true e 0 p.0 ∙ sym (eqb-true f 0 q.0) in
+    let others = zeros_same es fs (omega (arith, len)) p.1 q.1 in
+    cc (first, others)
+
+first_tells : (a b : Bool) (t u : Term) (ts us : List Term) → is_one t.0 ≡ a → is_one u.0 ≡ b → IsTerm t → IsTerm u → AllByRecursion IsHigher ts → AllByRecursion IsHigher us
+    → first_lumps a t ++ map lump_of ts ≡ first_lumps b u ++ map lump_of us → t ∷ ts ≡ u ∷ us
+first_tells true true t u ts us at au ot ou hs is e =
+    let h = cut_lumps (map simple (pieces_of t.1)) (map simple (pieces_of u.1)) (map lump_of ts) (map lump_of us) (inner t.1) (inner u.1) (all_outer ts hs) (all_outer us is) e in
+    let c = pieces_tell t.1 u.1 ot.coefficient ou.coefficient (unsimple (pieces_of t.1) (pieces_of u.1) h.0) in
+    let m = zeros_same t.0.e u.0.e (ot.monomial.eight ∙ sym ou.monomial.eight) at au in
+    let first = term_is t u (exponents_is t.0 u.0 m) c in
+    let others = higher_tell ts us hs is h.1 in
+    cc (first, others)
+first_tells true false t u ts us at au ot ou hs is e =
+    let high : IsHigher u = record { term = ou; higher = au } in
+    let h = cut_lumps (map simple (pieces_of t.1)) [] (map lump_of ts) (lump_of u ∷ map lump_of us) (inner t.1) tt (all_outer ts hs) (outer u high, all_outer us is) e in
+    absurd (some_by (is_zero_fraction t.1.c0) (is_zero_fraction t.1.c1) (is_zero_fraction t.1.c2) t.1 ot.nonzero h.0)
+first_tells false true t u ts us at au ot ou hs is e =
+    let high : IsHigher t = record { term = ot; higher = at } in
+    let h = cut_lumps (map simple (pieces_of u.1)) [] (map lump_of us) (lump_of t ∷ map lump_of ts) (inner u.1) tt (all_outer us is) (outer t high, all_outer ts hs) (sym e) in
+    absurd (some_by (is_zero_fraction u.1.c0) (is_zero_fraction u.1.c1) (is_zero_fraction u.1.c2) u.1 ou.nonzero h.0)
+first_tells false false t u ts us at au ot ou hs is e =
+    higher_tell (t ∷ ts) (u ∷ us) (record { term = ot; higher = at }, hs) (record { term = ou; higher = au }, is) e
+
+front_nil : (xs ys : List Lump) → xs ++ ys ≡ [] → xs ≡ []
+front_nil [] ys e = refl
+front_nil (x ∷ xs) ys e = absurd cc
+
+none_first : (a : Bool) (t : Term) (l : List Lump) → IsTerm t → first_lumps a t ++ l ≡ [] → ⊥
+none_first true t l is e = some_by (is_zero_fraction t.1.c0) (is_zero_fraction t.1.c1) (is_zero_fraction t.1.c2) t.1 is.nonzero (front_nil (map simple (pieces_of t.1)) l e)
+none_first false t l is e = cc
+
+lumps_tell : (ts us : List Term) → IsPolynomial ts → IsPolynomial us → lumps_all ts ≡ lumps_all us → ts ≡ us
+lumps_tell [] [] ot ou e = refl
+lumps_tell [] (u ∷ us) ot ou e = absurd (none_first (is_one u.0) u (map lump_of us) ou.0 (sym e))
+lumps_tell (t ∷ ts) [] ot ou e = absurd (none_first (is_one t.0) t (map lump_of ts) ot.0 e)
+lumps_tell (t ∷ ts) (u ∷ us) ot ou e = first_tells (is_one t.0) (is_one u.0) t u ts us refl refl ot.0 ou.0 ot.1 ou.1 e
+
+simple_texts : (ps : List Piece) → flat_map piece_text ps ≡ flat_map lump_text (map simple ps)
+simple_texts [] = refl
+simple_texts (p ∷ ps) = ap (λ (z : List ℕ). piece_text p ++ z) (simple_texts ps)
+
+simple_are : (ps : List Piece) → AllByRecursion IsPiece ps → AllByRecursion IsLump (map simple ps)
+simple_are [] is = tt
+simple_are (p ∷ ps) is = (record { small = is.0.small; nonzero = is.0.nonzero; factors = is.0.body }, simple_are ps is.1)
+
+lumps_append : (xs ys : List Lump) → AllByRecursion IsLump xs → AllByRecursion IsLump ys → AllByRecursion IsLump (xs ++ ys)
+lumps_append [] ys p q = q
+lumps_append (x ∷ xs) ys p q = (p.0, lumps_append xs ys p.1 q)
+
+first_are : (a : Bool) (t : Term) → is_one t.0 ≡ a → IsTerm t → AllByRecursion IsLump (first_lumps a t)
+first_are true t at is = simple_are (pieces_of t.1) (pieces_are t.1 is.coefficient)
+first_are false t at is = (higher_lump t (record { term = is; higher = at }), tt)
+
+lumps_are : (ts : List Term) → IsPolynomial ts → AllByRecursion IsLump (lumps_all ts)
+lumps_are [] is = tt
+lumps_are (t ∷ ts) is = lumps_append (first_lumps (is_one t.0) t) (map lump_of ts) (first_are (is_one t.0) t refl is.0) (higher_lumps ts is.1)
+
+first_text : (a : Bool) (t : Term) → is_one t.0 ≡ a → IsTerm t → term_in new_names t ≡ flat_map lump_text (first_lumps a t)
+unfolding term_in
+first_text true t at is = ap (λ (z : Bool). cond z (components_text t.1) (signed_text (scaled_text t.1 (starred t.0)))) at ∙ components_are t.1 ∙ simple_texts (pieces_of t.1)
+first_text false t at is = higher_text t (record { term = is; higher = at }) ∙ sym (append-nil (lump_text (lump_of t)))
+
+texts_are : (ts : List Term) → IsPolynomial ts → flat_map (term_in new_names) ts ≡ flat_map lump_text (lumps_all ts)
+texts_are [] is = refl
+texts_are (t ∷ ts) is =
+    ap (λ (z : List ℕ). z ++ flat_map (term_in new_names) ts) (first_text (is_one t.0) t refl is.0)
+    ∙ ap (λ (z : List ℕ). flat_map lump_text (first_lumps (is_one t.0) t) ++ z) (higher_texts ts is.1)
+    ∙ sym (flat_map-append lump_text (first_lumps (is_one t.0) t) (map lump_of ts))
+
+-- a polynomial is told from its text
+pub polynomial_one : (ts us : List Term) (x y : List ℕ) → IsPolynomial ts → IsPolynomial us → Starts EndsSum x → Starts EndsSum y
+    → without_plus (flat_map (term_in new_names) ts) ++ x ≡ without_plus (flat_map (term_in new_names) us) ++ y → (ts ≡ us) × (x ≡ y)
+polynomial_one ts us x y ot ou sx sy e =
+    let h = lump_sum_one (lumps_all ts) (lumps_all us) x y (lumps_are ts ot) (lumps_are us ou) sx sy
+    (ap (λ (z : List ℕ). without_plus z ++ x) (sym (texts_are ts ot)) ∙ e ∙ ap (λ (z : List ℕ). without_plus z ++ y) (texts_are us ou)) in
+    (lumps_tell ts us ot ou h.0, h.1)

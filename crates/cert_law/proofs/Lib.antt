@@ -1,0 +1,16 @@
+pub mod Cut
+pub mod Numbers
+pub mod Pieces
+pub mod Sums
+pub mod Elements
+pub mod Monomials
+pub mod Lumps
+pub mod Terms
+pub mod Jets
+pub mod Valid
+pub mod Letters
+pub mod Series
+pub mod Parts
+pub mod Carrying
+pub mod Reporting
+pub mod Whole
