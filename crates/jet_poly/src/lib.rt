@@ -6,7 +6,9 @@ mod collect;
 mod gather;
 mod jet;
 mod product;
+mod walk;
 
 pub use collect::{add, from_terms};
 pub use jet::{Jet, JetOf};
 pub use product::mul_cut;
+pub use walk::{cut, part};
