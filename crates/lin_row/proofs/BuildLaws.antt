@@ -15,6 +15,9 @@ use Rattle.lin_row.specs.System.{IsPivot, ArePivots, AreEchelon, IsAbsent, AllVa
 pub is_below : (d u : ℕ) → d < u → nat_lt d u ≡ true
 is_below d u h = grind (arith, nat_tests)
 
+pub from_test : (d u : ℕ) → nat_lt d u ≡ false → u ≤ d
+from_test d u h = grind (arith, nat_tests)
+
 pub not_below : (d u : ℕ) → u ≤ d → nat_lt d u ≡ false
 not_below d u h = grind (arith, nat_tests)
 

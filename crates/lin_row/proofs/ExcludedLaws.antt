@@ -130,12 +130,12 @@ module _ {E V : Type 0} (m : Meaning E V) (laws : IsCommRing m.scalars.ops) wher
       (all.0, negated_push left (suc c) (length xs) xs x refl all.1 (e ∙ ap (λ k. neg (entry m left k)) z))
 
   -- from u on, the values of unit columns are those that rows are taken against
-  early_zero : (u : ℕ) (rows : List (List (ℕ × E))) (w : ℕ → V) (d : ℕ) → d < u → unit_values u rows w d ≡ m.scalars.ops.zero
+  pub early_zero : (u : ℕ) (rows : List (List (ℕ × E))) (w : ℕ → V) (d : ℕ) → d < u → unit_values u rows w d ≡ m.scalars.ops.zero
   early_zero u [] w d less = refl
   early_zero u (row ∷ rows) w d less =
       ap₂ add (ap (λ z. mul z (neg (dot m row w))) (LineLaws.unit_other m laws u d (λ e. omega arith)) ∙ RingSolver.zero_mul m.scalars.ops laws (neg (dot m row w))) (early_zero (suc u) rows w d (omega arith)) ∙ laws.add_zero m.scalars.ops.zero
 
-  unit_value : (u j : ℕ) (rows : List (List (ℕ × E))) (w : ℕ → V) → unit_values u rows w (u + j) ≡ neg (dot_at m rows j w)
+  pub unit_value : (u j : ℕ) (rows : List (List (ℕ × E))) (w : ℕ → V) → unit_values u rows w (u + j) ≡ neg (dot_at m rows j w)
   unit_value u j [] w = sym (RingSolver.neg_zero m.scalars.ops laws)
   unit_value u zero (row ∷ rows) w =
       let here : u + 0 ≡ u = omega arith in
@@ -218,7 +218,7 @@ module _ {E V : Type 0} (m : Meaning E V) (laws : IsCommRing m.scalars.ops) wher
   reduced_left [] ys h = tt
   reduced_left (x ∷ xs) ys h = (cleared_left xs ys x.1 h.0, reduced_left xs ys h.1)
 
-  reduced_at : (xs ys : List (ℕ × List (ℕ × E))) (p : ℕ × List (ℕ × E)) → AreReduced m (xs ++ (p ∷ ys)) → IsCleared m ys p.1
+  pub reduced_at : (xs ys : List (ℕ × List (ℕ × E))) (p : ℕ × List (ℕ × E)) → AreReduced m (xs ++ (p ∷ ys)) → IsCleared m ys p.1
   reduced_at [] ys p h = h.0
   reduced_at (x ∷ xs) ys p h = reduced_at xs ys p h.1
 

@@ -5,3 +5,6 @@ pub mod BuildLaws
 pub mod StageLaws
 pub mod PlainLaws
 pub mod ExcludedLaws
+pub mod FormLaws
+pub mod KernelLaws
+pub mod FormSteps

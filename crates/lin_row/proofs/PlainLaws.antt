@@ -317,6 +317,7 @@ module _ {E V : Type 0} (m : Meaning E V) (laws : IsCommRing m.scalars.ops) wher
             let zero_pivot = SystemLaws.vanish_in m laws is.done_cleared [] (column, is.pivot) w split in
             stage.spans w none (pivots_back column is.pivot done is.done_cleared w is.clears_done zero_pivot (vanish_left is.done_cleared _ w split))
             (vanish_around w (pivot_back w zero_pivot) (rows_back column is.pivot (others_of rest i) rest_next w is.clears_rest zero_pivot rows));
+        low = stage.low;
       }
 
       pub next_smaller : length rest_next < length rest
@@ -396,6 +397,7 @@ module _ {E V : Type 0} (m : Meaning E V) (laws : IsCommRing m.scalars.ops) wher
             let here = (rows_vanish_right rest (ext ∷ []) w all).0 in
             rows_vanish_append first (row ∷ []) w (h.spans w none (rows_vanish_left rest (ext ∷ []) w all))
             (BuildLaws.row_zero m laws row ext ext w (w (4294967296 + k)) (value w) (none (4294967296 + k) (omega arith)) refl here, tt);
+        low = StageLaws.each_push (AllBelow 4294967296) first row h.low below;
       }
 
   pub pivot_lines : (ps : List (ℕ × List (ℕ × E))) → ArePivots m ps → EachOf (λ p. IsLine m p.1) ps
@@ -414,6 +416,7 @@ module _ {E V : Type 0} (m : Meaning E V) (laws : IsCommRing m.scalars.ops) wher
     done_evidence = λ w. tt;
     rest_evidence = h.evidence;
     spans = λ w none all rows. h.spans w none rows;
+    low = h.low;
   }
 
   pub from_lead : (xs : List (ℕ × E)) (u : ℕ) → IsRising xs → u ≤ lead_of xs → AllFrom u xs
@@ -426,7 +429,7 @@ module _ {E V : Type 0} (m : Meaning E V) (laws : IsCommRing m.scalars.ops) wher
 
   module _ (extended : List (ℕ → V)) (given : List (List (ℕ × E))) (done : List (ℕ × List (ℕ × E))) (rest : List (List (ℕ × E))) (stage : IsStage m 4294967296 extended given done rest) (late : EachOf (λ r. 4294967296 ≤ lead_of r) rest) where
     pub end_system : IsSystem m 4294967296 given given done
-    end_system = record { echelon = stage.echelon; below = stage.below; evidence = stage.done_evidence; spans = λ w none all. stage.spans w none all (late_vanish rest w none stage.lines late) }
+    end_system = record { echelon = stage.echelon; below = stage.below; evidence = stage.done_evidence; spans = λ w none all. stage.spans w none all (late_vanish rest w none stage.lines late); low = stage.low }
 
     pub end_stage : IsEnd m 4294967296 extended done
     end_stage = record {

@@ -2,7 +2,7 @@
 use Rattle.std.specs.Prelude.{◌≡◌, ◌≢◌, ℕ, ◌<◌, List, [], ◌∷◌, map}
 use Rattle.ring_theory.specs.Scalars.{Meaning}
 use Rattle.lin_row.specs.Lines.{IsLine, IsRising, AllBelow, EachOf, dot, entry}
-use Rattle.lin_row.specs.System.{AreEchelon, AreReduced, RowsVanish, combination}
+use Rattle.lin_row.specs.System.{AreEchelon, AreReduced, AllVanish, RowsVanish, ZeroAtPivots, IsAbsent, combination}
 
 -- the row is a combination of the rows
 pub record IsCombination {E V : Type 0} (m : Meaning E V) (rows : List (List (ℕ × E))) (row : List (ℕ × E)) : Type 0 where
@@ -43,3 +43,18 @@ pub record IsKernelBasis {E V : Type 0} (m : Meaning E V) (given : List (List (�
   pub below : AllBelow n basis
   pub each : EachOf (λ b. IsKernelVector m given basis b.0 b.1) basis
   pub spans : (w : ℕ → V) → RowsVanish m given w → (d : ℕ) → d < n → w d ≡ kernel_sum m basis w d
+
+-- a vector of the column b.0 without pivot: each pivot's row vanishes on it, and where w is 0 at the pivots it takes the value of w at its own column
+pub record IsKernelPart {E V : Type 0} (m : Meaning E V) (ps : List (ℕ × List (ℕ × E))) (b : ℕ × List (ℕ × E)) : Type 0 where
+  pub line : IsLine m b.1
+  pub free : IsAbsent b.0 ps
+  pub vanish : AllVanish m ps (entry m b.1)
+  pub same : (w : ℕ → V) → ZeroAtPivots m.scalars ps w → dot m b.1 w ≡ w b.0
+  pub last : (d : ℕ) → b.0 < d → entry m b.1 d ≡ m.scalars.ops.zero
+
+-- such vectors of all columns without pivot below n, in order
+pub record AreKernelParts {E V : Type 0} (m : Meaning E V) (ps : List (ℕ × List (ℕ × E))) (n : ℕ) (bs : List (ℕ × List (ℕ × E))) : Type 0 where
+  pub parts : EachOf (IsKernelPart m ps) bs
+  pub rising : IsRising bs
+  pub below : AllBelow n bs
+  pub complete : (d : ℕ) → d < n → IsAbsent d ps → IsAbsent d bs → ⊥

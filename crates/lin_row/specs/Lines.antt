@@ -1,5 +1,5 @@
 -- Rows of entries, seen as linear forms: a row gives to values of the columns the sum of entry times value.
-use Rattle.std.specs.Prelude.{◌≡◌, ◌≢◌, ℕ, ◌<◌, ◌≤◌, ◌^◌, ◌⊎◌, List, [], ◌∷◌, ⊤, cond, eqb, length, get_or}
+use Rattle.std.specs.Prelude.{◌≡◌, ◌≢◌, ℕ, ◌<◌, ◌≤◌, ◌^◌, ◌⊎◌, List, [], ◌∷◌, ⊤, cond, eqb, nat_lt, length, get_or}
 use Rattle.ring_theory.specs.Ring.{RingOps}
 use Rattle.ring_theory.specs.Scalars.{Scalars, Meaning, SumIsHigh}
 
@@ -50,6 +50,11 @@ AllFrom c (t ∷ ts) = (c ≤ t.0) × AllFrom c ts
 abbrev pub AllBelow : {E : Type 0} → ℕ → List (ℕ × E) → Type 0
 AllBelow c [] = ⊤
 AllBelow c (t ∷ ts) = (t.0 < c) × AllBelow c ts
+
+-- the entries before the first column from u on
+abbrev pub given_part : {E : Type 0} → ℕ → List (ℕ × E) → List (ℕ × E)
+given_part u [] = []
+given_part u (t ∷ ts) = cond (nat_lt t.0 u) (t ∷ given_part u ts) []
 
 -- the first column, and 2^64 - 1 where there is none
 abbrev pub lead_of : {E : Type 0} → List (ℕ × E) → ℕ

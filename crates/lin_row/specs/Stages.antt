@@ -42,6 +42,7 @@ pub record IsStage {E V : Type 0} (m : Meaning E V) (u : ℕ) (extended : List (
   pub done_evidence : (w : ℕ → V) → AllVanish m done (against m u given w)
   pub rest_evidence : (w : ℕ → V) → RowsVanish m rest (against m u given w)
   pub spans : (w : ℕ → V) → ((d : ℕ) → u ≤ d → w d ≡ m.scalars.ops.zero) → AllVanish m done w → RowsVanish m rest w → RowsVanish m given w
+  pub low : EachOf (AllBelow u) given
 
 -- the row with number i is the first that begins in the lowest column in which a row begins, and that column is below u
 pub record IsLeast {E : Type 0} (u : ℕ) (rest : List (List (ℕ × E))) (i : ℕ) : Type 0 where
@@ -63,6 +64,7 @@ pub record IsStart {E V : Type 0} (m : Meaning E V) (u : ℕ) (given first : Lis
   pub entries : map (entry m) rest ≡ with_units m u 0 first
   pub evidence : (w : ℕ → V) → RowsVanish m rest (against m u given w)
   pub spans : (w : ℕ → V) → ((d : ℕ) → u ≤ d → w d ≡ m.scalars.ops.zero) → RowsVanish m rest w → RowsVanish m first w
+  pub low : EachOf (AllBelow u) first
 
 -- the rows but the one with number i
 abbrev pub others_of : {X : Type 0} → List X → ℕ → List X

@@ -2,7 +2,7 @@
 use Rattle.std.specs.Prelude.{◌≡◌, ◌≢◌, ℕ, zero, suc, ◌-◌, ◌<◌, ◌≤◌, List, [], ◌∷◌, ⊤, ◌⊎◌, cond, nat_lt, length, get_or}
 use Rattle.std.proofs.Common.{Vec, Global}
 use Rattle.ring_theory.specs.Scalars.{Scalars, Meaning}
-use Rattle.lin_row.specs.Lines.{IsLine, IsRising, AllBelow, dot, entry}
+use Rattle.lin_row.specs.Lines.{EachOf, IsLine, IsRising, AllBelow, dot, entry}
 
 -- new is a row and a multiple of another
 pub record AddsMultiple {E V : Type 0} (m : Meaning E V) (row other new : List (ℕ × E)) : Type 0 where
@@ -82,6 +82,7 @@ pub record IsSystem {E V : Type 0} (m : Meaning E V) (u : ℕ) (rows first : Lis
   pub below : AllBelow u pivots
   pub evidence : (w : ℕ → V) → AllVanish m pivots (against m u rows w)
   pub spans : (w : ℕ → V) → ((d : ℕ) → u ≤ d → w d ≡ m.scalars.ops.zero) → AllVanish m pivots w → RowsVanish m first w
+  pub low : EachOf (AllBelow u) first
 
 -- the pivots of code as lists
 abbrev pub lines_of : {E : Type 0} → List (ℕ × Vec (ℕ × E) Global) → List (ℕ × List (ℕ × E))

@@ -3,6 +3,7 @@
 
 mod echelon;
 mod excluded;
+mod forms;
 pub mod laws;
 mod line;
 mod plain;
@@ -10,5 +11,6 @@ mod row;
 mod stage;
 mod systems;
 
+pub use forms::{kernel, reduce};
 pub use row::{Row, Solution};
 pub use systems::{System, Way, make_system, solve, solve_in};

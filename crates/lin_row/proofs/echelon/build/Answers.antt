@@ -1,3 +1,4 @@
+use Rattle.lin_row.specs.Lines.{EachOf, AllBelow}
 use Rattle.std.proofs.Common.{◌∙◌, ◌<◌, ◌+◌, ◌-◌, sym, subst, arith, length}
 use Rattle.lin_row.specs.System.{RowsVanish, against}
 use Rattle.lin_row.specs.Rows.{rows_of}
@@ -27,6 +28,7 @@ loop-k-preserved g c =
         evidence = λ w. vanish (against m 4294967296 (rows_of rows) w) (old.evidence w)
             (same (against m 4294967296 (rows_of rows) w) (old.evidence w)
             ∙ BuildLaws.own_zero m laws (rows_of rows) 4294967296 k row.entries c.in_ok-row.row.items w (omega (arith, BuildLaws.rows-length rows)) (BuildLaws.rows-at rows k row within c.index-rows-k.is) c.in_ok-row.ensures.below (c.in_ok-row.ensures.value (against m 4294967296 (rows_of rows) w)));
+        low = subst (EachOf (AllBelow 4294967296)) (sym (BuildLaws.rows-next rows k c.loop-k.k row within (omega arith) c.index-rows-k.is)) (c.in_ok-row.ensures.below, old.low);
         below = c.in_ok-add_pivot.ensures.below;
         spans = λ w none all.
             let before = c.in_ok-add_pivot.ensures.keeps w all in

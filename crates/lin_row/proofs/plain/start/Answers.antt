@@ -11,7 +11,7 @@ extended-requires-clause-line g c =
     BuildLaws.valid-at (g.F.Ring.meaning c.args.field.now) c.args.rows.now c.loop-i.i c.index-rows-i.result c.loop-i-test.true c.index-rows-i.is c.requires.rows
 
 pub loop-i-init : goal.loop-i-init
-loop-i-init g c = rw c.new-all.ensures.items (record { lines = tt; entries = refl; evidence = λ w. tt; spans = λ w none all. tt })
+loop-i-init g c = rw c.new-all.ensures.items (record { lines = tt; entries = refl; evidence = λ w. tt; spans = λ w none all. tt; low = tt })
 
 pub loop-i-preserved : goal.loop-i-preserved
 loop-i-preserved g c =
