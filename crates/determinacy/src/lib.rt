@@ -1,6 +1,7 @@
 //! Mather's test of finite determinacy.
 #![tactic(auto)]
 
+pub mod laws;
 mod row;
 
 pub use row::{MatherRow, MatherTest};

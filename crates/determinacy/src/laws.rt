@@ -1,0 +1,16 @@
+//! What Mather's condition says under changes of coordinates, and what its failure says of a germ.
+
+ghost use Rattle.poly_law.specs.Laws.{MatherKept, LimitMeans};
+
+use ring_law::Ring;
+
+/// A change of coordinates that carries f to h up to order k keeps Mather's condition at k: it holds for f exactly where it holds for h.
+pub fn mather_kept<R: Ring>()
+    ensures { (r : R) → R.is_ring r → MatherKept (R.meaning r).scalars.ops }
+{}
+
+/// Where a change of coordinates carries a germ up to order k to a split jet, and a functional shows that Mather's condition fails at k for the residual
+/// part, the germ does not meet Mather's condition at k or below.
+pub fn limit_means<R: Ring>()
+    ensures { (r : R) → R.is_ring r → LimitMeans (R.meaning r).scalars.ops }
+{}
