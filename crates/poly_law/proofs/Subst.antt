@@ -1,7 +1,7 @@
 -- Substitution is a map of rings.
 use mathlib.Core.Path.{fun_ext}
 use mathlib.Core.Quot.{mk, sound, ind, lift, Quot-set}
-use Rattle.std.proofs.Common.{◌≡◌, ℕ, zero, suc, ◌++◌, ap, sym, ◌∙◌, refl, ap₂}
+use Rattle.std.proofs.Common.{◌≡◌, ℕ, zero, suc, ◌<◌, ◌++◌, cond, eqb, eq-eqb, ne_eqb, ap, sym, ◌∙◌, refl, ap₂}
 use Rattle.ring_theory.specs.Ring.{RingOps, IsCommRing}
 use Rattle.poly_law.specs.Sums.{total, sum_to, product_to, power, monomial}
 use Rattle.poly_law.specs.Exps.{Exps, IsExps, plus, none}
@@ -107,6 +107,23 @@ module _ {E F V : Type 0} (x : Exps E) (l : IsExps x) (y : Exps F) (m : IsExps y
         ∙ ap (λ z. r.add (r.mul a z) r.zero)
         (pair_from_path y m r c s (image (none x)) (constant y r r.one) (mk_monomial parts (none x) ∙ monomial-none (inside parts)) w
         ∙ c.add_zero (r.mul r.one (w (none y))) ∙ c.mul_comm r.one (w (none y)) ∙ c.mul_one (w (none y)))
+
+    -- the products of powers, at a product of monomials, at 1 and at a power of one variable
+    pub monomial_of-plus : (a b : E) → Same y r (image (plus x a b)) (times y r (image a) (image b))
+    monomial_of-plus a b = Pair.same_from_pair y m r c (image (plus x a b)) (times y r (image a) (image b)) (image-plus a b)
+
+    pub monomial_of-none : Same y r (image (none x)) (constant y r r.one)
+    monomial_of-none = same_from_path y m r c s (image (none x)) (constant y r r.one) (mk_monomial parts (none x) ∙ monomial-none (inside parts))
+
+    pub monomial_of-single : (i e : ℕ) → i < x.count → Same y r (image (x.make (λ j. cond (eqb j i) e 0))) (power (poly_ops y r) (parts i) e)
+    monomial_of-single i e h = same_from_path y m r c s (image (x.make (λ j. cond (eqb j i) e 0))) (power (poly_ops y r) (parts i) e)
+        (mk_monomial parts (x.make (λ j. cond (eqb j i) e 0))
+        ∙ Sums.product_to-one target (laws y m r c s) x.count i (λ j. power target (inside parts j) (x.at (x.make (λ j. cond (eqb j i) e 0)) j)) h other
+        ∙ ap (power target (inside parts i)) (l.at_make (λ j. cond (eqb j i) e 0) i h ∙ ap (λ b. cond {A = ℕ} b e 0) (eq-eqb i i refl))
+        ∙ sym (mk_power y m r c s (parts i) e))
+      where
+        other : (j : ℕ) → j < x.count → (j ≡ i → ⊥) → power target (inside parts j) (x.at (x.make (λ j. cond (eqb j i) e 0)) j) ≡ target.one
+        other j g ne = ap (power target (inside parts j)) (l.at_make (λ j. cond (eqb j i) e 0) j g ∙ ap (λ b. cond {A = ℕ} b e 0) (ne_eqb j i ne))
 
     -- in the rings
     abbrev pub at_parts : Poly x r → Poly y r

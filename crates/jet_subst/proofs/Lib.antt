@@ -1,0 +1,5 @@
+pub mod Reduced
+pub mod PowerLemmas
+pub mod Monomials
+pub mod Tables
+pub mod Multiples

@@ -1,0 +1,10 @@
+//! Substitution of jets for the variables of a jet, up to a degree.
+#![tactic(auto)]
+
+mod power;
+mod substitution;
+mod table;
+mod truncated;
+
+pub use power::powers;
+pub use substitution::subst;
