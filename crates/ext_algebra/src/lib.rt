@@ -12,3 +12,6 @@ pub use algebra::{Algebra, Ext};
 pub use algebra_ring::AlgebraRing;
 pub use field::{ExtError, ExtField};
 pub use ring::ExtRing;
+
+#[cfg(test)]
+mod tests;
