@@ -1,8 +1,9 @@
 -- Which parts of the reports are well formed: fractions, elements and jets in one variable.
-use Rattle.std.proofs.Common.{◌≡◌, ◌≢◌, ℕ, zero, suc, ◌*◌, ◌^◌, ◌<◌, ◌≤◌, Bool, true, false, not, ◌&&◌, List, [], ◌∷◌, ◌++◌, length, take, drop, sum, pos, negsuc, ℤ, int_eq, unsigned_abs, refl, sym, ap, subst, ◌∙◌, arith, eq-eqb, lt-ltb, le-leb, mul-pos}
+use Rattle.std.proofs.Common.{◌≡◌, ◌≢◌, ℕ, zero, suc, ◌+◌, ◌*◌, ◌^◌, ◌<◌, ◌≤◌, Bool, true, false, not, ◌&&◌, List, [], ◌∷◌, ◌++◌, length, take, drop, sum, pos, negsuc, ℤ, int_eq, unsigned_abs, refl, sym, ap, subst, ◌∙◌, arith, eq-eqb, lt-ltb, le-leb, mul-pos}
 use Rattle.std.specs.Prelude.{nat_lt, nat_le, ◌==◌, int_lt}
 use Rattle.std.specs.List.{list_all}
 use Rattle.std.proofs.Math.Nat.{mul-le-mul_right}
+use Rattle.std.proofs.lemmas.List.{length-append, length-drop}
 use Rattle.std.proofs.Math.Seq.{take-append_seam, drop-append_seam}
 use Rattle.ring_theory.specs.Gcd.{gcd}
 use Rattle.ring_theory.proofs.GcdLaws.{coprime_by}
@@ -92,7 +93,10 @@ zeros_kept (suc k) (x ∷ xs) h = zeros_kept k xs (and_right (x == 0) (list_all 
 pub name_valid : (x : List ℕ) → syntax.is_name x ≡ true → is_valid_name (name_of x) ≡ true
 name_valid x good =
     let zeros : List ℕ = drop (length x) (0 ∷ 0 ∷ 0 ∷ 0 ∷ []) in
-    and_both (nat_le (length x) 4) (syntax.is_name (take (length x) (x ++ zeros)) && list_all (λ b. b == 0) (drop (length x) (x ++ zeros))) (le-leb (length x) 4 (name_length x good))
+    let few = name_length x good in
+    let four : length (x ++ zeros) ≡ 4 = length-append x zeros ∙ ap (λ (k : ℕ). length x + k) (length-drop (length x) (0 ∷ 0 ∷ 0 ∷ 0 ∷ [])) ∙ omega (arith, few) in
+    and_both ((length (x ++ zeros) == 4) && nat_le (length x) 4) (syntax.is_name (take (length x) (x ++ zeros)) && list_all (λ b. b == 0) (drop (length x) (x ++ zeros)))
+    (and_both (length (x ++ zeros) == 4) (nat_le (length x) 4) (ap (λ (k : ℕ). k == 4) four) (le-leb (length x) 4 few))
     (and_both (syntax.is_name (take (length x) (x ++ zeros))) (list_all (λ b. b == 0) (drop (length x) (x ++ zeros))) (ap syntax.is_name (take-append_seam x zeros) ∙ good)
     (ap (list_all (λ b. b == 0)) (drop-append_seam x zeros) ∙ zeros_kept (length x) (0 ∷ 0 ∷ 0 ∷ 0 ∷ []) refl))
 
