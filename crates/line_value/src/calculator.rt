@@ -73,5 +73,5 @@ pub trait Calculator {
         ensures value { IfOk result (λ v. value self.now v ≡ (arithmetic self.now).over (value self.now a.now) n) }
         ensures cause { OnFault result ((high self.now).quotient (value self.now a.now) n) };
 
-    ghost powers: { (r : Self) → PowerLaws (arithmetic r) };
+    ghost powers: { (r : Self) → PowerLaws (arithmetic r) (is_elem r) (value r) };
 }
