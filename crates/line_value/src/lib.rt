@@ -3,10 +3,12 @@
 
 mod calculation;
 mod calculator;
+mod line;
 mod powers;
 mod steps;
 
 pub use calculation::{At, Calculation, Frame};
 pub use calculator::Calculator;
+pub use line::evaluate_line;
 pub use powers::power;
 pub use steps::evaluate;
