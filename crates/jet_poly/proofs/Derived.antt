@@ -1,10 +1,16 @@
 -- Terms that are made of the terms of a jet, one after the other, and written unless they are zero.
-use Rattle.std.proofs.Common.{◌≡◌, ◌≢◌, ℕ, zero, suc, ◌+◌, ◌-◌, ◌<◌, ◌≤◌, ◌⊎◌, inl, inr, Bool, true, false, ◌&&◌, ◌||◌, cond, ltb, eqb, not, List, [], ◌∷◌, ◌++◌, map, length, get_or, set, take, sum, pos, refl, sym, ap, ap₂, subst, ◌∙◌, append-nil, arith}
+use Rattle.std.proofs.Common.{◌≡◌, ◌≢◌, ℕ, zero, suc, ◌+◌, ◌-◌, ◌*◌, ◌^◌, ◌<◌, ◌≤◌, ◌⊎◌, inl, inr, Bool, true, false, ◌&&◌, ◌||◌, cond, ltb, eqb, not, List, [], ◌∷◌, ◌++◌, map, length, get_or, set, take, sum, pos, refl, sym, ap, ap₂, subst, ◌∙◌, append-nil, arith}
 use Rattle.std.specs.List.{AllByRecursion, All, filter}
 use Rattle.std.proofs.lemmas.Bool.{lt-ltb, le-ltb, ltb-true, eqb-true, eq-eqb}
 use Rattle.std.proofs.lemmas.List.{get_or-map, length-map, map-append}
 use Rattle.std.proofs.lemmas.List.Elements.{All-from_recursion}
-use Rattle.ring_theory.specs.Ring.{IsCommRing}
+use Rattle.std.proofs.lemmas.Int.{ints}
+use Rattle.ring_theory.specs.Gcd.{gcd}
+use Rattle.ring_theory.specs.Rational.{rational, rational_add, rational_ops}
+use Rattle.ring_theory.proofs.GcdLaws.{coprime_by}
+use Rattle.ring_theory.proofs.RationalLaws.{unique, rational_is, add_is}
+use Rattle.ring_law.specs.Fraction.{IsFrac}
+use Rattle.poly_law.proofs.Sums
 use Rattle.ring_theory.specs.Scalars.{Scalars, ScalarLaws, Meaning}
 use Rattle.poly_law.specs.Sums.{multiple}
 use Rattle.poly_law.specs.Exps.{lower}
@@ -17,12 +23,15 @@ use Rattle.mono_exp.specs.declared.exponent.Exp.{Exp}
 use Rattle.mono_exp.specs.Exponents.{IsIn, is_before, is_greater_first}
 use Rattle.mono_exp.proofs.Lists.{sum-cons}
 use Rattle.jet_law.specs.Terms.{exp_of, poly_of}
-use Rattle.jet_law.proofs.TermLemmas.{poly_of-take}
+use Rattle.jet_law.specs.Heights.{IsHigh, scale_heights, derivative_heights}
+use Rattle.jet_law.proofs.High.{high_tail, high_mapped}
+use Rattle.jet_law.proofs.TermLemmas.{poly_of-take, at-exp_of}
 use Rattle.jet_poly.specs.JetTerms.{JetTerms, IsRising, AllAfter}
-use Rattle.jet_poly.specs.Jets.{IsJet}
+use Rattle.jet_poly.specs.Jets.{IsJet, whole}
 use Rattle.jet_poly.specs.Gathered.{nonzero}
 use Rattle.jet_poly.proofs.GatheredLemmas.{weaker}
 use Rattle.jet_poly.proofs.Output.{all-push, rising-push, same-push}
+use Rattle.jet_poly.proofs.Steps.{inside, read}
 
 -- the monomials of terms, by their exponents
 abbrev pub keys : {E : Type 0} → List (Exp × E) → List (List ℕ)
@@ -200,3 +209,53 @@ in-lowered n v e i j h = step v e j (i j h)
 
 pub degree-lowered : (v : ℕ) (e : List ℕ) (k : ℕ) → 0 < get_or e v 0 → sum e ≤ k → sum (lowered v e) ≤ k
 degree-lowered v e k h d = let s = sum-lowered v e h in omega arith
+
+-- ---- whole numbers in a ring
+
+pub whole_valid : (k : ℕ) → k < 256 → IsFrac (record { num = pos k; den = pos 1 })
+whole_valid k h = record { den_pos = omega (arith, ints); lowest = coprime_by k 1 (λ d x y. y); num_fits = omega arith; den_fits = omega arith }
+
+whole-suc : (k : ℕ) → rational (pos (suc k)) 1 ≡ rational_ops.add (rational (pos k) 1) (rational (pos 1) 1)
+whole-suc k =
+    unique (rational_is (pos (suc k)) 1 (omega arith)) (add_is (rational_is (pos k) 1 (omega arith)) (rational_is (pos 1) 1 (omega arith)))
+    (ap pos (let e : suc k * 1 ≡ (k * 1 + 1) * 1 = omega arith in e))
+
+zero_twice : rational_ops.add (rational (pos 0) 1) (rational (pos 0) 1) ≡ rational (pos 0) 1
+unfolding rational_add rational gcd
+zero_twice = refl
+
+module _ {V : Type 0} (s : Scalars V) (laws : ScalarLaws s) where
+  whole-zero : whole s 0 ≡ s.ops.zero
+  whole-zero = Sums.add_cancel s.ops laws.ring (whole s 0) (whole s 0) s.ops.zero
+      (sym (laws.embeds.add (rational (pos 0) 1) (rational (pos 0) 1)) ∙ ap s.rational zero_twice ∙ sym (laws.ring.add_zero (whole s 0)))
+
+  -- a whole number is that multiple of 1
+  pub whole-multiple : (k : ℕ) → whole s k ≡ multiple s.ops k s.ops.one
+  whole-multiple zero = whole-zero
+  whole-multiple (suc k) =
+      ap s.rational (whole-suc k) ∙ laws.embeds.add (rational (pos k) 1) (rational (pos 1) 1) ∙ ap₂ s.ops.add (whole-multiple k) laws.embeds.one
+
+  -- its product with v is that multiple of v
+  pub whole-mul : (k : ℕ) (v : V) → s.ops.mul (whole s k) v ≡ multiple s.ops k v
+  whole-mul k v = ap (λ z. s.ops.mul z v) (whole-multiple k) ∙ sym (Sums.multiple_is s.ops laws.ring k v)
+
+  -- where a multiple is not zero, neither is the number
+  pub multiple_positive : (k : ℕ) (v : V) → multiple s.ops k v ≢ s.ops.zero → 0 < k
+  multiple_positive zero v h = absurd (h refl)
+  multiple_positive (suc k) v h = omega arith
+
+-- ---- heights
+
+module _ {E V : Type 0} (n k : ℕ) (m : Meaning E V) (laws : ScalarLaws m.scalars) where
+  pub scale-high : (a : V) (f : List (Exp × E)) (i : ℕ) (t : Exp × E) → i < length f → t ≡ get_or f i t → 2 ^ 120 ≤ m.scalars.product_height a (m.value t.1) → IsHigh (scale_heights (exps n) m.scalars a (poly_of n m.value f))
+  unfolding scale_heights
+  scale-high a f i t h e high =
+      high_tail (m.scalars.height a) (map (λ t. m.scalars.product_height a t.1) (poly_of n m.value f))
+      (high_mapped (λ t. m.scalars.product_height a t.1) (poly_of n m.value f) i (exp_of n t.0, m.value t.1) (inside n k m laws f i h) (read n k m laws f i t e) high)
+
+  pub derivative-high : (v : ℕ) (w : V) (f : List (Exp × E)) (i : ℕ) (t : Exp × E) → v < n → i < length f → t ≡ get_or f i t → w ≡ whole m.scalars (get_or t.0.e v 0) → 2 ^ 120 ≤ m.scalars.product_height w (m.value t.1)
+      → IsHigh (derivative_heights (exps n) m.scalars v (poly_of n m.value f))
+  unfolding derivative_heights
+  derivative-high v w f i t l h e q high =
+      high_mapped (λ t. m.scalars.product_height (whole m.scalars ((exps n).at t.0 v)) t.1) (poly_of n m.value f) i (exp_of n t.0, m.value t.1) (inside n k m laws f i h) (read n k m laws f i t e)
+      (subst (λ z. 2 ^ 120 ≤ m.scalars.product_height z (m.value t.1)) (q ∙ ap (whole m.scalars) (sym (at-exp_of n t.0 v l))) high)

@@ -2,3 +2,4 @@ pub mod Lists
 pub mod Counting
 pub mod Table
 pub mod NumberLemmas
+pub mod ListLemmas

@@ -2,8 +2,10 @@
 //! first, and within a degree the greater exponent at the first place that differs.
 #![tactic(auto)]
 
+mod enumeration;
 mod exponent;
 mod number;
 
+pub use enumeration::list;
 pub use exponent::{Exp, before, degree, quotient, times, weight};
 pub use number::{rank, unrank};

@@ -1,0 +1,42 @@
+//! Coefficients of jets.
+
+ghost use Rattle.std.specs.Prelude.{◌≡◌, ◌≤◌};
+ghost use Rattle.poly_law.specs.Exps.{same};
+ghost use Rattle.poly_law.specs.ExpList.{exps};
+ghost use Rattle.poly_law.specs.Polynomials.{coefficient_in};
+ghost use Rattle.mono_exp.specs.Exponents.{IsIn};
+ghost use Rattle.jet_law.specs.Terms.{exp_of, poly_of};
+ghost use Rattle.jet_poly.specs.Jets.{IsJet};
+
+use crate::jet::JetOf;
+use mono_exp::Exp;
+use ring_law::Ring;
+
+/// True where two monomials have the same exponents.
+fn is_same(a: Exp, b: Exp) -> bool
+    ensures { result ≡ same (exps 8) (exp_of 8 a) (exp_of 8 b) }
+{
+    for i in 0..8 {
+        if a.e[i] != b.e[i] {
+            return false;
+        }
+    }
+    true
+}
+
+/// The coefficient of a jet at a monomial, zero where it has no such term.
+pub fn coef<R: Ring>(ring: &R, f: &JetOf<R>, a: Exp) -> R::Elem
+    requires ring { R.is_ring ring.now }
+    requires jet { IsJet (R.meaning ring.now) f.now }
+    requires at_most_8_variables { f.now.n ≤ 8 }
+    ensures elem { (R.meaning ring.now).is_elem result }
+    ensures value { let m = R.meaning ring.now in m.value result ≡ coefficient_in 8 m.scalars.ops (poly_of 8 m.value f.now.terms) (exp_of 8 a) }
+    ensures in_variables { IsIn f.now.n a.e → (let m = R.meaning ring.now in m.value result ≡ coefficient_in f.now.n m.scalars.ops (poly_of f.now.n m.value f.now.terms) (exp_of f.now.n a)) }
+{
+    for t in f.terms() {
+        if is_same(t.0, a) {
+            return t.1;
+        }
+    }
+    ring.zero()
+}
