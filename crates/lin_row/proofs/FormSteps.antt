@@ -1,11 +1,13 @@
 -- The loops that make the reduced form and the kernel.
+use Rattle.std.proofs.lemmas.List.{take_more}
 use Rattle.std.proofs.Common.{◌≡◌, ◌≢◌, ℕ, zero, suc, ◌+◌, ◌<◌, ◌≤◌, cond, List, [], ◌∷◌, ◌++◌, length, take, drop, get_or, map, append_assoc, append-nil, sym, ap, ap₂, ◌∙◌, arith, subst, Vec, Global, Result, Ok, Err, IfOk}
 use Rattle.std.proofs.lemmas.List.{map-append, drop_all}
 use Rattle.ring_theory.specs.Scalars.{Meaning}
 use Rattle.lin_row.specs.Lines.{AllBelow, IsLine, EachOf, given_part}
 use Rattle.lin_row.specs.System.{AreEchelon, AllVanish, IsSystem, IsAbsent, lines_of}
-use Rattle.lin_row.specs.Rows.{AreRows, rows_of}
+use Rattle.lin_row.specs.Rows.{AreRows, AreSolutions, IsSolution, rows_of}
 use Rattle.lin_row.specs.declared.row.Row.{Row}
+use Rattle.lin_row.specs.declared.row.Solution.{Solution}
 use Rattle.lin_row.proofs.LineLaws
 use Rattle.lin_row.proofs.SystemLaws
 use Rattle.lin_row.proofs.BuildLaws
@@ -56,3 +58,15 @@ pub pivot_among : {E : Type 0} (ps : List (ℕ × Vec (ℕ × E) Global)) (i c :
 pivot_among [] i c p within read e absent = omega (arith, within)
 pivot_among (q ∷ ps) zero c p within read e absent = let k : p ≡ q = read in absent.0 (sym (ap (λ u. u.0) k) ∙ e)
 pivot_among (q ∷ ps) (suc i) c p within read e absent = pivot_among ps i c p (omega (arith, within)) read e absent.1
+
+-- a target more, with its answer
+solutions_push : {E V : Type 0} (m : Meaning E V) (rows ts : List (Row E)) (ss : List (Solution E)) (t : Row E) (s : Solution E) → AreSolutions m rows ts ss → IsSolution m rows t.entries s → AreSolutions m rows (ts ++ (t ∷ [])) (ss ++ (s ∷ []))
+solutions_push m rows [] [] t s all h = (h, tt)
+solutions_push m rows [] (x ∷ ss) t s all h = absurd all
+solutions_push m rows (y ∷ ts) [] t s all h = absurd all
+solutions_push m rows (y ∷ ts) (x ∷ ss) t s all h = (all.0, solutions_push m rows ts ss t s all.1 h)
+
+pub solutions_more : {E V : Type 0} (m : Meaning E V) (rows targets : List (Row E)) (i : ℕ) (t : Row E) (ss : List (Solution E)) (s : Solution E) → i < length targets → t ≡ get_or targets i t → AreSolutions m rows (take i targets) ss → IsSolution m rows t.entries s
+    → AreSolutions m rows (take (i + 1) targets) (ss ++ (s ∷ []))
+solutions_more m rows targets i t ss s within read all h =
+    subst (λ ts. AreSolutions m rows ts (ss ++ (s ∷ []))) (sym (take_more targets i t within ∙ ap (λ u. take i targets ++ (u ∷ [])) (sym read))) (solutions_push m rows (take i targets) ss t s all h)

@@ -34,6 +34,13 @@ abbrev pub IsSolution : {E V : Type 0} → Meaning E V → List (Row E) → List
 IsSolution m rows target (Solved xs) = IsSolved m (rows_of rows) target xs.items
 IsSolution m rows target (Excluded values) = IsExcluded m (rows_of rows) target values.items
 
+-- for each target, in its place, what solves or excludes it
+abbrev pub AreSolutions : {E V : Type 0} → Meaning E V → List (Row E) → List (Row E) → List (Solution E) → Type 0
+AreSolutions m rows [] [] = ⊤
+AreSolutions m rows [] (s ∷ ss) = ⊥
+AreSolutions m rows (t ∷ ts) [] = ⊥
+AreSolutions m rows (t ∷ ts) (s ∷ ss) = IsSolution m rows t.entries s × AreSolutions m rows ts ss
+
 -- no target has both answers
 abbrev pub AnswersExclude : {E V : Type 0} → Meaning E V → Type 0
 AnswersExclude {E} {V} m = (rows : List (List (ℕ × E))) (target values : List (ℕ × E)) (xs : List E) → IsSolved m rows target xs → IsExcluded m rows target values → ⊥

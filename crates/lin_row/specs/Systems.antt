@@ -4,7 +4,7 @@ use Rattle.ring_theory.specs.Scalars.{Meaning}
 use Rattle.lin_row.specs.Lines.{entry}
 use Rattle.lin_row.specs.Rows.{rows_of}
 use Rattle.lin_row.specs.System.{IsSystem, lines_of}
-use Rattle.lin_row.specs.Plain.{ReductionIsHigh, TargetIsHigh, with_units}
+use Rattle.lin_row.specs.Plain.{Among, ReductionIsHigh, TargetIsHigh, with_units}
 use Rattle.lin_row.specs.Stages.{IsEnd}
 use Rattle.lin_row.specs.declared.row.Row.{Row}
 use Rattle.lin_row.specs.declared.systems.System.{System}
@@ -23,3 +23,7 @@ SystemIsHigh m rows = ReductionIsHigh m.scalars 4294967296 (with_units m 4294967
 -- the same with the reduction of a target
 abbrev pub SolvingIsHigh : {E V : Type 0} → Meaning E V → List (Row E) → List (ℕ × E) → Type 0
 SolvingIsHigh m rows target = SystemIsHigh m rows ⊎ TargetIsHigh m.scalars 4294967296 (with_units m 4294967296 0 (rows_of rows)) (entry m target)
+
+-- the same with the reduction of some of the targets
+abbrev pub SolvingAnyIsHigh : {E V : Type 0} → Meaning E V → List (Row E) → List (Row E) → Type 0
+SolvingAnyIsHigh m rows targets = SystemIsHigh m rows ⊎ Among (λ t. SolvingIsHigh m rows t.entries) targets

@@ -13,4 +13,4 @@ mod systems;
 
 pub use forms::{kernel, reduce};
 pub use row::{Row, Solution};
-pub use systems::{System, Way, make_system, solve, solve_in};
+pub use systems::{solve, solve_all};

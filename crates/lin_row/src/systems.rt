@@ -3,11 +3,11 @@
 ghost use Rattle.std.specs.Prelude.{◌≡◌, ◌≢◌, ℕ, ◌<◌, ◌≤◌, IfOk, OnOk, length};
 ghost use Rattle.ring_law.specs.Refusals.{OnFault};
 ghost use Rattle.lin_row.specs.Lines.{IsLine, AllBelow, EachOf, lead_of, entry};
-ghost use Rattle.lin_row.specs.Rows.{AreRows, IsSolution, rows_of};
+ghost use Rattle.lin_row.specs.Rows.{AreRows, AreSolutions, IsSolution, rows_of};
 ghost use Rattle.lin_row.specs.System.{IsSystem, AreEchelon, AreReduced, AreNegated, IsCleared, Excludes, lines_of};
 ghost use Rattle.lin_row.specs.Plain.{DivisionIsHigh, with_units};
 ghost use Rattle.lin_row.specs.Stages.{functions_of, IsEnd};
-ghost use Rattle.lin_row.specs.Systems.{IsSystemOf, SystemIsHigh, SolvingIsHigh};
+ghost use Rattle.lin_row.specs.Systems.{IsSystemOf, SystemIsHigh, SolvingIsHigh, SolvingAnyIsHigh};
 
 use crate::echelon::{build, remainder};
 use crate::excluded::{excluding, excluding_plainly};
@@ -201,5 +201,49 @@ pub fn solve<F: Field>(
         Ok(solution) => Ok(solution),
         Err(Fault::NoMemory) => Err(Fault::NoMemory),
         Err(Fault::Range(_)) => solve_by(alloc, field, rows, target, Way::Plain),
+    }
+}
+
+fn solve_all_by<F: Field>(
+    alloc: Global,
+    field: &F,
+    rows: &[Row<F::Elem>],
+    targets: &[Row<F::Elem>],
+    way: Way,
+) -> Result<Vec<Solution<F::Elem>>, Fault>
+    requires ring { F.is_ring field.now }
+    requires rows { AreRows (F.meaning field.now) rows.now }
+    requires targets { AreRows (F.meaning field.now) targets.now }
+    ensures solutions { IfOk result (λ v. AreSolutions (F.meaning field.now) rows.now targets.now v.items) }
+    ensures cause { way ≡ Way.Plain → OnFault result (SolvingAnyIsHigh (F.meaning field.now) rows.now targets.now) }
+{
+    let system = make_system(alloc, field, rows, way)?;
+    let mut all = Vec::new(alloc);
+    for target in targets {
+        let solution = solve_in(alloc, field, rows, &system, target)?;
+        all.push(solution)?;
+    }
+    Ok(all)
+}
+
+/// What solves or excludes each of several targets, in their order; the rows are reduced once.
+///
+/// Errors: `Range` only where the height of the plain row reduction with one of these targets is 2^120 or more.
+pub fn solve_all<F: Field>(
+    alloc: Global,
+    field: &F,
+    rows: &[Row<F::Elem>],
+    targets: &[Row<F::Elem>],
+) -> Result<Vec<Solution<F::Elem>>, Fault>
+    requires ring { F.is_ring field.now }
+    requires rows { AreRows (F.meaning field.now) rows.now }
+    requires targets { AreRows (F.meaning field.now) targets.now }
+    ensures solutions { IfOk result (λ v. AreSolutions (F.meaning field.now) rows.now targets.now v.items) }
+    ensures range { OnFault result (SolvingAnyIsHigh (F.meaning field.now) rows.now targets.now) }
+{
+    match solve_all_by(alloc, field, rows, targets, Way::Quick) {
+        Ok(solutions) => Ok(solutions),
+        Err(Fault::NoMemory) => Err(Fault::NoMemory),
+        Err(Fault::Range(_)) => solve_all_by(alloc, field, rows, targets, Way::Plain),
     }
 }
