@@ -1,6 +1,7 @@
 //! A change of coordinates with the inverse of its linear part.
 
 use jet_poly::Jet;
+use ring_law::Ring;
 use sqlite_items::Items;
 
 /// A change of coordinates in n variables up to an order: what is put for each variable, and a
@@ -15,3 +16,6 @@ pub struct Change<E> {
     pub parts: Items<Jet<E>>,
     pub inverse: Items<E>,
 }
+
+/// The changes of coordinates over a ring.
+pub type ChangeOf<R> = Change<<R as Ring>::Elem>;

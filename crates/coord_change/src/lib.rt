@@ -1,6 +1,13 @@
-//! Changes of coordinates.
+//! Changes of coordinates: the identity, composition, and the transformed jet.
 #![tactic(auto)]
 
 mod change;
+mod composition;
+mod matrix;
+mod pullback;
+mod unit;
 
-pub use change::Change;
+pub use change::{Change, ChangeOf};
+pub use composition::then;
+pub use pullback::carry;
+pub use unit::identity;

@@ -150,7 +150,7 @@ truncated_jet m n k f p jet en ek rising equal = record {
   };
 }
 
-zeros : (i : ℕ) → ◌≡◌ {A = ℕ} (get_or (0 ∷ 0 ∷ 0 ∷ 0 ∷ 0 ∷ 0 ∷ 0 ∷ 0 ∷ []) i 0) 0
+pub zeros : (i : ℕ) → ◌≡◌ {A = ℕ} (get_or (0 ∷ 0 ∷ 0 ∷ 0 ∷ 0 ∷ 0 ∷ 0 ∷ 0 ∷ []) i 0) 0
 zeros zero = refl
 zeros (suc zero) = refl
 zeros (suc (suc zero)) = refl
