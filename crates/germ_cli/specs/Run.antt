@@ -6,6 +6,8 @@ use Rattle.germ_cli.specs.declared.status.Status.{Status}
 use Rattle.line_io.specs.Bytes.{AppendsFront, AppendsPart}
 use Rattle.line_io.specs.Lines.{answered_lines, is_answered, line_of}
 use Rattle.one_variable.specs.Answers.{report_of}
+use Rattle.one_variable_law.specs.Rightness.{IsNotSmall}
+use Rattle.report_law.specs.Right.{IsClassification, IsClassificationFront}
 use Rattle.std.specs.Io.KnownBytes.{Appends}
 use Rattle.std.specs.Prelude.{◌≡◌, ◌⊎◌, ℕ, ◌-◌, ◌^◌, ◌<◌, ◌≤◌, Bool, false, List, [], ◌∷◌, length, take, map, flat_map, IfSome, codes, bytes_eq, if◌then◌else◌}
 use Rattle.std.specs.declared.option.Option.{Option}
@@ -50,6 +52,14 @@ whole_text input = texts_of (reports_of input)
 -- a front of the texts of the reports of the first n answered lines was written
 abbrev pub WroteFront : List ℕ → Option (List ℕ) → Option (List ℕ) → Type 0
 WroteFront input old new = (n : ℕ) × AppendsFront old new (texts_of (take n (reports_of input)))
+
+-- the texts of right reports, one for each answered line of the input, in order, were written
+abbrev pub WroteRightReports : List ℕ → Option (List ℕ) → Option (List ℕ) → Type 0
+WroteRightReports input old new = (written : List ℕ) × IsClassification IsNotSmall 12 (answered_lines input) written × Appends old new written
+
+-- a front of the texts of right reports for the first answered lines of the input was written
+abbrev pub WroteRightFront : List ℕ → Option (List ℕ) → Option (List ℕ) → Type 0
+WroteRightFront input old new = (written : List ℕ) × IsClassificationFront IsNotSmall 12 (answered_lines input) written × Appends old new written
 
 -- the usage line was written, or a write failed before its end
 abbrev pub WroteUsage : Option (List ℕ) → Option (List ℕ) → Status → Type 0

@@ -2,8 +2,9 @@
 ghost use Rattle.germ_cli.specs.Run.{line_text, piece_text, whole_text};
 ghost use Rattle.line_io.specs.Bytes.{AppendsFront};
 ghost use Rattle.line_io.specs.Causes.{Rose};
+ghost use Rattle.one_variable_law.specs.Rightness.{HasRightReports};
 ghost use Rattle.std.specs.Io.KnownBytes.{Appends};
-ghost use Rattle.std.specs.Prelude.{◌≡◌, ◌≤◌, OnOk, IsErrOf};
+ghost use Rattle.std.specs.Prelude.{◌≡◌, ◌≤◌, OnOk, IsErrOf, length};
 
 use cert_text::write_report;
 use line_io::{Sink, is_answered_line, line_in, split_piece, write_whole};
@@ -59,6 +60,7 @@ fn write_answer<W: Sink>(alloc: Global, piece: &[u8], sink: &mut W) -> Result<()
 pub fn write_reports<W: Sink>(alloc: Global, input: &[u8], sink: &mut W) -> Result<(), WriteStop>
     ensures ok { OnOk result (Appends (W.taken sink.old) (W.taken sink.new) (whole_text input.now)) }
     ensures front { AppendsFront (W.taken sink.old) (W.taken sink.new) (whole_text input.now) }
+    ensures right { length input.now ≤ 16777216 → HasRightReports input.now }
     ensures later { W.faults sink.old ≤ W.faults sink.new }
     ensures fault { IsErrOf result WriteStop.Fault → Rose (W.faults sink.old) (W.faults sink.new) }
 {

@@ -1,5 +1,5 @@
 //! The top call.
-ghost use Rattle.germ_cli.specs.Run.{is_classify, whole_text, usage_line, WroteFront, WroteUsage, WithinLimit, IsQuiet, EndsWell};
+ghost use Rattle.germ_cli.specs.Run.{is_classify, whole_text, usage_line, WroteFront, WroteRightFront, WroteRightReports, WroteUsage, WithinLimit, IsQuiet, EndsWell};
 ghost use Rattle.line_io.specs.Bytes.{AppendsFront, ReadsWhole};
 ghost use Rattle.line_io.specs.Causes.{Rose};
 ghost use Rattle.one_variable.specs.Laws.{IsTooLongExactly, IsUnbuiltExactly};
@@ -27,6 +27,9 @@ fn classify_all<S: Source, W: Sink>(alloc: Global, source: &mut S, sink: &mut W)
     ensures done { result ≡ Status.Done → (input : List ℕ) × ReadsWhole (S.left source.old) (S.left source.new) input
         × Appends (W.taken sink.old) (W.taken sink.new) (whole_text input) }
     ensures front { IfSome (S.left source.old) (λ input. AppendsFront (W.taken sink.old) (W.taken sink.new) (whole_text input)) }
+    ensures right { result ≡ Status.Done → (input : List ℕ) × ReadsWhole (S.left source.old) (S.left source.new) input
+        × WroteRightReports input (W.taken sink.old) (W.taken sink.new) }
+    ensures right_front { IfSome (S.left source.old) (λ input. WroteRightFront input (W.taken sink.old) (W.taken sink.new)) }
     ensures read { result ≡ Status.ReadFault → Rose (S.faults source.old) (S.faults source.new) }
     ensures write { result ≡ Status.WriteFault → Rose (W.faults sink.old) (W.faults sink.new) }
     ensures limit { (input : List ℕ) × Consumes (S.left source.old) (S.left source.new) input × WithinLimit input result }
@@ -67,6 +70,13 @@ pub fn run<S: Source, W: Sink>(
     // At any status what was written is a front of the reports of the first answered lines.
     ensures front { is_classify (map string_bytes words.now) ≡ true → IfSome (S.left source.old) (λ input.
         WroteFront input (W.taken sink.old) (W.taken sink.new)) }
+
+    // At the end what was written is the texts of reports, one for each answered line, in order, each
+    // right for its line; at any status it is a front of such texts for the first answered lines.
+    ensures right { result ≡ Status.Done → (input : List ℕ) × ReadsWhole (S.left source.old) (S.left source.new) input
+        × WroteRightReports input (W.taken sink.old) (W.taken sink.new) }
+    ensures right_front { is_classify (map string_bytes words.now) ≡ true → IfSome (S.left source.old) (λ input.
+        WroteRightFront input (W.taken sink.old) (W.taken sink.new)) }
 
     // Other words are answered before any read.
     ensures usage { result ≡ Status.Usage → is_classify (map string_bytes words.now) ≡ false }

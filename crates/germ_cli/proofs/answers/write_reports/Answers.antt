@@ -3,6 +3,7 @@ use Rattle.std.proofs.lemmas.Bool.{eqb-true}
 use Rattle.std.proofs.lemmas.List.{nil_from_length}
 use Rattle.germ_cli.specs.Run.{whole_text, piece_text}
 use Rattle.line_io.proofs.Known.{front_of}
+use Rattle.germ_cli.proofs.Rightness.{within_limit}
 use Rattle.germ_cli.proofs.Written.{text_step, no_text, front_more, done_more, done_all}
 use Rattle.germ_cli.proofs.answers.write_reports.Goals as goal
 
@@ -31,3 +32,9 @@ pub returns-clause-front : goal.returns-clause-front
 returns-clause-front g c =
     let w = c.loop-rest.invariant.wrote in
     front_of _ _ (whole_text c.args.input.now) w.0 (whole_text c.loop-rest.rest.now) w.2 w.1
+
+pub returns-in-Err-clause-right : goal.returns-in-Err-clause-right
+returns-in-Err-clause-right g c = within_limit c.args.input.now c.type_inv.input
+
+pub returns-clause-right : goal.returns-clause-right
+returns-clause-right g c = within_limit c.args.input.now c.type_inv.input
