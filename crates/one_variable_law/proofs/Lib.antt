@@ -11,3 +11,4 @@ pub mod Valid
 pub mod WellFormed
 pub mod Right
 pub mod Inputs
+pub mod Examples
