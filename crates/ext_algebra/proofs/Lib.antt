@@ -3,3 +3,4 @@ pub mod Components
 pub mod CubicInverse
 pub mod AlgebraParts
 pub mod FieldInverses
+pub mod ElementTests
