@@ -2,3 +2,5 @@ pub mod Polynomials
 pub mod Items
 pub mod Valid
 pub mod Right
+pub mod Meaning
+pub mod Verdicts

@@ -1,2 +1,10 @@
-//! What a valid report and a right report are.
+//! What a valid report and a right report are, and what a valid one means.
 #![tactic(auto)]
+
+ghost use Rattle.report_law.specs.Meaning.{NamedIsFree};
+
+/// Of a valid named report the jets of the order modulo the partials of the form's residual part are
+/// free with the printed basis, so that the Milnor number is their dimension.
+pub fn named_is_free()
+    ensures { NamedIsFree }
+{}

@@ -1,0 +1,35 @@
+-- What a valid report means for the polynomials: the printed quotient is free with the printed basis.
+use Rattle.std.specs.Prelude.{◌≡◌, ℕ, ◌<◌, List, ◌++◌, length}
+use Rattle.std.specs.List.{AllByRecursion}
+use Rattle.ext_algebra.specs.Algebra.{Value}
+use Rattle.poly_law.specs.ExpList.{exps}
+use Rattle.poly_law.specs.Poly.{InIdeal, of_basis, values_of}
+use Rattle.poly_law.specs.Polynomials.{poly_in}
+use Rattle.line_syntax.specs.Syntax.{Line}
+use Rattle.cert_text.specs.declared.report.Named as named_type
+use Rattle.report_law.specs.Polynomials.{PolynomialOver}
+use Rattle.report_law.specs.Items.{ring_of, residual_of, basis_of, values_of_row}
+use Rattle.report_law.specs.Valid.{NamedItem, named_items}
+
+-- f is in the ideal of the partials of the form's residual part, modulo the terms of degree above the order
+abbrev pub InJacobianIdeal : (r : named_type.Named) → PolynomialOver r.carried.corank r.carried.algebra → Type 0
+InJacobianIdeal r f = InIdeal (exps r.carried.corank) (ring_of r.carried) r.carried.order (residual_of r.carried) f
+
+-- the combination of the printed basis with these values
+abbrev pub combination_of : (r : named_type.Named) → (ℕ → Value r.carried.algebra) → PolynomialOver r.carried.corank r.carried.algebra
+combination_of r v = of_basis (exps r.carried.corank) (ring_of r.carried) (length r.quotient.basis) (basis_of r) v
+
+-- the values of a polynomial by the printed table, extended linearly from the monomials
+abbrev pub values_by_table : (r : named_type.Named) → PolynomialOver r.carried.corank r.carried.algebra → ℕ → Value r.carried.algebra
+values_by_table r f = values_of (exps r.carried.corank) (ring_of r.carried) (values_of_row r) r.carried.order f
+
+-- The jets of the order modulo the ideal are free with the printed basis, as many monomials as the Milnor number says: each polynomial less
+-- the combination of the basis with its values is in the ideal, and a combination of the basis that is in the ideal has only zeros.
+pub record IsFree (r : named_type.Named) : Type 0 where
+  pub spans : (f : PolynomialOver r.carried.corank r.carried.algebra)
+      → InJacobianIdeal r (f ++ (poly_in r.carried.corank (ring_of r.carried)).neg (combination_of r (values_by_table r f)))
+  pub independent : (v : ℕ → Value r.carried.algebra) → InJacobianIdeal r (combination_of r v) → (j : ℕ) → j < r.milnor → v j ≡ (ring_of r.carried).zero
+
+-- of a valid named report the jets modulo the ideal are free, so that the Milnor number is their dimension
+abbrev pub NamedIsFree : Type 0
+NamedIsFree = (bytes : List ℕ) (l : Line) (r : named_type.Named) → AllByRecursion (NamedItem bytes l r) named_items → IsFree r
