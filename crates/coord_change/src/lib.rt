@@ -5,6 +5,8 @@ mod change;
 mod composition;
 mod matrix;
 mod pullback;
+#[cfg(test)]
+mod tests;
 mod unit;
 
 pub use change::{Change, ChangeOf};
