@@ -1,6 +1,6 @@
 -- The families of normal forms: the numbers of a name, corank, monomials of the sum, Milnor number, and the kind of what must be a unit.
 -- Source: V. I. Arnold, S. M. Gusein-Zade, A. N. Varchenko, Singularities of Differentiable Maps, volume 1, chapter 15.
-use Rattle.std.specs.Prelude.{ℕ, ◌+◌, ◌-◌, Bool, true, ◌&&◌, ◌||◌, List, [], ◌∷◌, nat_le, ◌==◌, if◌then◌else◌}
+use Rattle.std.specs.Prelude.{ℕ, ◌+◌, ◌-◌, Bool, true, false, ◌&&◌, ◌||◌, List, [], ◌∷◌, nat_le, ◌==◌, if◌then◌else◌}
 use Rattle.normal_forms.specs.declared.family.Family.{Family}
 use Rattle.normal_forms.specs.declared.family.Family.TheVariants as families
 use Rattle.normal_forms.specs.Monomials.{monomials_of}
@@ -131,6 +131,13 @@ milnor_number_of families.Q12 = 12
 milnor_number_of families.S11 = 11
 milnor_number_of families.S12 = 12
 milnor_number_of families.U12 = 12
+
+-- the family has numbers in its name that its sum depends on
+abbrev pub has_numbers : Family → Bool
+has_numbers (families.A m) = true
+has_numbers (families.D m) = true
+has_numbers (families.T p q r) = true
+has_numbers _ = false
 
 -- how the unit values and the modulus come from the coefficients: simple families, the T series, P8, X9, J10, the exceptional families
 pub data Kind : Type 0 where

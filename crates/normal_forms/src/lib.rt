@@ -3,6 +3,7 @@
 
 mod admission;
 mod family;
+mod form;
 mod membership;
 mod milnor;
 mod modulus;
@@ -10,6 +11,7 @@ mod pattern;
 mod split;
 
 pub use family::Family;
+pub use form::{corank, has_form};
 pub use membership::in_pattern;
 pub use milnor::index;
 pub use modulus::ModulusLine;
