@@ -1,6 +1,7 @@
 //! Substitution of jets for the variables of a jet, up to a degree.
 #![tactic(auto)]
 
+pub mod laws;
 mod power;
 mod substitution;
 mod table;
