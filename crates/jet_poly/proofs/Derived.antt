@@ -1,8 +1,8 @@
 -- Terms that are made of the terms of a jet, one after the other, and written unless they are zero.
 use Rattle.std.proofs.Common.{◌≡◌, ◌≢◌, ℕ, zero, suc, ◌+◌, ◌-◌, ◌*◌, ◌^◌, ◌<◌, ◌≤◌, ◌⊎◌, inl, inr, Bool, true, false, ◌&&◌, ◌||◌, cond, ltb, eqb, not, List, [], ◌∷◌, ◌++◌, map, length, get_or, set, take, sum, pos, refl, sym, ap, ap₂, subst, ◌∙◌, append-nil, arith}
-use Rattle.std.specs.List.{AllByRecursion, All, filter}
+use Rattle.std.specs.List.{AllByRecursion}
 use Rattle.std.proofs.lemmas.Bool.{lt-ltb, le-ltb, ltb-true, eqb-true, eq-eqb}
-use Rattle.std.proofs.lemmas.List.{get_or-map, length-map, map-append}
+use Rattle.std.proofs.lemmas.List.{get_or-map, map-append}
 use Rattle.std.proofs.lemmas.List.Elements.{All-from_recursion}
 use Rattle.std.proofs.lemmas.Int.{ints}
 use Rattle.ring_theory.specs.Gcd.{gcd}
@@ -13,10 +13,8 @@ use Rattle.ring_law.specs.Fraction.{IsFrac}
 use Rattle.poly_law.proofs.Sums
 use Rattle.ring_theory.specs.Scalars.{Scalars, ScalarLaws, Meaning}
 use Rattle.poly_law.specs.Sums.{multiple}
-use Rattle.poly_law.specs.Exps.{lower}
 use Rattle.poly_law.specs.ExpList.{ExpList, exps}
-use Rattle.poly_law.specs.Poly.{coefficient, Same, scale, derivative}
-use Rattle.poly_law.specs.Polynomials.{Polynomial}
+use Rattle.poly_law.specs.Poly.{coefficient, Same}
 use Rattle.poly_law.proofs.ExpLists.{exps_are}
 use Rattle.poly_law.proofs.PolyRing
 use Rattle.mono_exp.specs.declared.exponent.Exp.{Exp}

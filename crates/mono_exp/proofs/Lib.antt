@@ -3,3 +3,4 @@ pub mod Counting
 pub mod Table
 pub mod NumberLemmas
 pub mod ListLemmas
+pub mod OrderLaws

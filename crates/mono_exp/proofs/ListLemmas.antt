@@ -1,11 +1,9 @@
 -- The list of monomials, one variable after the other.
-use Rattle.std.proofs.Common.{◌≡◌, ℕ, zero, suc, ◌+◌, ◌-◌, ◌<◌, ◌≤◌, List, [], ◌∷◌, ◌++◌, map, length, get_or, set, take, sum, refl, sym, ap, ap₂, subst, ◌∙◌, append_assoc, append-nil, arith}
+use Rattle.std.proofs.Common.{◌≡◌, ℕ, zero, suc, ◌+◌, ◌-◌, ◌<◌, List, [], ◌∷◌, ◌++◌, map, refl, sym, ap, ap₂, ◌∙◌, append_assoc, append-nil, arith}
 use Rattle.std.specs.List.{flat_map, All}
 use Rattle.std.proofs.lemmas.List.{map-append}
-use Rattle.mono_exp.specs.declared.exponent.Exp.{Exp}
-use Rattle.mono_exp.specs.Exponents.{exponents, IsIn, monomials_of, numbers_below}
-use Rattle.mono_exp.proofs.Lists.{flat_map-append, map-flat_map, map-map}
-use Rattle.mono_exp.proofs.NumberLemmas.{exponents-take}
+use Rattle.mono_exp.specs.Exponents.{monomials_of, numbers_below}
+use Rattle.mono_exp.proofs.Lists.{flat_map-append}
 
 -- the monomials of degree d by the exponent of the first variable, as far as the degree of the rest has come
 abbrev pub begun : ℕ → ℕ → ℕ → List (List ℕ)

@@ -4,6 +4,7 @@
 
 mod enumeration;
 mod exponent;
+pub mod laws;
 mod number;
 
 pub use enumeration::list;

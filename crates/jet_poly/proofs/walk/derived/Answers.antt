@@ -1,12 +1,12 @@
-use Rattle.std.proofs.Common.{◌≡◌, ℕ, ◌+◌, ◌<◌, ◌≤◌, ◌∙◌, [], List, get_or, length, take, take_all, sum, refl, sym, ap, subst, arith}
+use Rattle.std.proofs.Common.{◌+◌, ◌<◌, ◌≤◌, ◌∙◌, [], get_or, length, take, take_all, sum, refl, sym, ap, subst, arith}
 use Rattle.ring_law.proofs.Exits.{faulted, fault_handed_on}
-use Rattle.poly_law.specs.ExpList.{ExpList, exps}
+use Rattle.poly_law.specs.ExpList.{exps}
 use Rattle.poly_law.specs.Poly.{coefficient, Same, derivative}
 use Rattle.poly_law.specs.Sums.{multiple}
 use Rattle.poly_law.specs.Exps.{lower}
 use Rattle.mono_exp.specs.Exponents.{IsIn}
 use Rattle.jet_law.proofs.TermLemmas.{at-exp_of}
-use Rattle.jet_law.specs.Terms.{exp_of, poly_of}
+use Rattle.jet_law.specs.Terms.{poly_of}
 use Rattle.jet_poly.specs.Jets.{IsJet, whole}
 use Rattle.jet_poly.proofs.KeptTerms.{made}
 use Rattle.jet_poly.proofs.Derived.{AreReady, keys, key-read, keys-rise, none-ready, ready-step, ready-jet, made-step, derivative-high, before-lowered, in-lowered, degree-lowered, lowered, whole-mul, multiple_positive}

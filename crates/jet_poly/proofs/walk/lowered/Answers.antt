@@ -1,4 +1,4 @@
-use Rattle.std.proofs.Common.{◌≡◌, ◌-◌, ◌<◌, ◌∙◌, ap, ap₂, set, get_or, length, rules, arith}
+use Rattle.std.proofs.Common.{◌≡◌, ◌-◌, ◌∙◌, ap, ap₂, set, get_or, length, rules, arith}
 use Rattle.jet_law.proofs.TermLemmas.{exp_of-lower}
 use Rattle.jet_poly.proofs.walk.lowered.Goals as goal
 

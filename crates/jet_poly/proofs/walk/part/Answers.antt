@@ -1,11 +1,11 @@
-use Rattle.std.proofs.Common.{◌≡◌, ℕ, Bool, ◌&&◌, ◌∙◌, leb, eqb, sum, sym, ap, subst}
+use Rattle.std.proofs.Common.{◌&&◌, ◌∙◌, leb, eqb, sum, sym, ap, subst}
 use Rattle.std.specs.List.{filter}
 use Rattle.poly_law.specs.ExpList.{exps}
 use Rattle.poly_law.specs.Poly.{coefficient}
 use Rattle.jet_law.specs.Terms.{poly_of}
 use Rattle.jet_poly.specs.JetTerms.{IsRising}
 use Rattle.jet_poly.specs.Jets.{IsJet}
-use Rattle.jet_poly.proofs.KeptTerms.{kept-rising, kept-jet, filtered-by, both-eqb, made, made-same}
+use Rattle.jet_poly.proofs.KeptTerms.{kept-rising, kept-jet, filtered-by, both-eqb, made-same}
 use Rattle.jet_poly.proofs.walk.part.Goals as goal
 
 pub from_rising-requires : goal.from_rising-requires

@@ -1,9 +1,9 @@
-use Rattle.std.proofs.Common.{◌≡◌, ℕ, ◌+◌, ◌<◌, ◌≤◌, ◌∙◌, [], List, get_or, length, take, take_all, sum, refl, sym, ap, subst, arith}
+use Rattle.std.proofs.Common.{◌+◌, ◌≤◌, ◌∙◌, [], get_or, length, take, take_all, sum, refl, sym, ap, subst, arith}
 use Rattle.ring_law.proofs.Exits.{faulted, fault_handed_on}
-use Rattle.poly_law.specs.ExpList.{ExpList, exps}
+use Rattle.poly_law.specs.ExpList.{exps}
 use Rattle.poly_law.specs.Poly.{coefficient, Same, scale}
 use Rattle.mono_exp.specs.Exponents.{IsIn}
-use Rattle.jet_law.specs.Terms.{exp_of, poly_of}
+use Rattle.jet_law.specs.Terms.{poly_of}
 use Rattle.jet_poly.specs.Jets.{IsJet}
 use Rattle.jet_poly.proofs.KeptTerms.{made}
 use Rattle.jet_poly.proofs.Derived.{AreReady, keys, key-read, keys-rise, none-ready, ready-step, ready-jet, made-step, scale-high}

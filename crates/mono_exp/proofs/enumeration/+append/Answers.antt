@@ -1,4 +1,4 @@
-use Rattle.std.proofs.Common.{◌≡◌, ℕ, suc, ◌+◌, ◌-◌, ◌<◌, ◌≤◌, [], ◌∷◌, ◌++◌, List, map, take, length, sym, ap, ap₂, subst, ◌∙◌, append-nil, rules, arith}
+use Rattle.std.proofs.Common.{◌≡◌, suc, ◌+◌, ◌-◌, [], ◌∷◌, ◌++◌, map, take, length, sym, ap, ap₂, subst, ◌∙◌, append-nil, rules, arith}
 use Rattle.std.proofs.lemmas.List.{map-append}
 use Rattle.mono_exp.specs.Exponents.{exponents, monomials_of}
 use Rattle.mono_exp.proofs.NumberLemmas.{exponents-take}
