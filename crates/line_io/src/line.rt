@@ -5,7 +5,8 @@ ghost use Rattle.std.specs.Prelude.{◌≡◌, ◌<◌, ◌==◌, ◌∷◌, len
 /// The most bytes of a line that is read.
 pub const MAX_LINE: usize = 65_536;
 
-fn newline_at(bytes: &[u8]) -> Option<usize>
+/// The place of the first newline.
+pub fn newline_at(bytes: &[u8]) -> Option<usize>
     ensures at { result ≡ position (λ b. b == 10) bytes.now }
     ensures within { IfSome result (λ at. at < length bytes.now) }
 {

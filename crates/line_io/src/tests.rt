@@ -1,8 +1,8 @@
 //! Sources and sinks in memory, call by call, and the lines of an input. The expected values are
 //! counted by hand.
 use crate::{
-    CleanSource, MemSink, MemSource, Sink, Source, StdSink, StdSource, is_answered_line, line_in,
-    read_whole, split_piece, write_whole,
+    CleanSource, Lines, MemSink, MemSource, Next, Sink, Source, StdSink, StdSource,
+    is_answered_line, line_in, read_whole, split_piece, write_whole,
 };
 use std::test::*;
 
@@ -73,4 +73,39 @@ fn pieces_and_answered_lines(rt: HostRuntime) {
         assert_eq!(rt; is_answered_line(line), answered);
         assert_eq!(rt; after, rest);
     }
+}
+
+#[test]
+fn lines_as_they_come(rt: HostRuntime) -> Result<(), Fail> {
+    for step in [1, 3, 100] {
+        let mut source = MemSource::new(rt.alloc(), b"x^2\n\r\n\r\r\nlast", step, &[]).map_err(
+            |_| MEMORY,
+        )?;
+        let mut lines = Lines::new(rt.alloc()).map_err(|_| MEMORY)?;
+        for wanted in [b"x^2".as_slice(), b"", b"\r", b"last"] {
+            assert_eq!(rt; lines.next_line(&mut source), Next::Line);
+            assert_eq!(rt; lines.line(), wanted);
+        }
+        assert_eq!(rt; lines.next_line(&mut source), Next::End);
+        assert_eq!(rt; lines.next_line(&mut source), Next::End);
+    }
+    Ok(())
+}
+
+#[test]
+fn long_lines_and_faults(rt: HostRuntime) -> Result<(), Fail> {
+    for (count, wanted) in [(65_536, Next::Line), (65_537, Next::Long(65_537))] {
+        let mut input = vec![in rt.alloc(); b'x'; count]?;
+        input.push(b'\r')?;
+        let mut source = MemSource::new(rt.alloc(), &input, 50_000, &[]).map_err(|_| MEMORY)?;
+        let mut lines = Lines::new(rt.alloc()).map_err(|_| MEMORY)?;
+        assert_eq!(rt; lines.next_line(&mut source), wanted);
+        assert_eq!(rt; lines.next_line(&mut source), Next::End);
+    }
+    let mut source = MemSource::new(rt.alloc(), b"ab\ncd\n", 4, &[2]).map_err(|_| MEMORY)?;
+    let mut lines = Lines::new(rt.alloc()).map_err(|_| MEMORY)?;
+    for wanted in [Next::Line, Next::ReadFault, Next::ReadFault] {
+        assert_eq!(rt; lines.next_line(&mut source), wanted);
+    }
+    Ok(())
 }

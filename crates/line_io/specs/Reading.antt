@@ -1,0 +1,65 @@
+-- Lines that are read one after another.
+use Rattle.line_io.specs.LineSoFar.{IsUnbroken}
+use Rattle.line_io.specs.Lines.{line_of}
+use Rattle.line_io.specs.declared.lines.Lines.{Lines}
+use Rattle.line_io.specs.declared.next.Next.TheVariants as nexts
+use Rattle.line_io.specs.declared.next.Next.{Next}
+use Rattle.std.specs.Io.KnownBytes.{Consumes}
+use Rattle.std.specs.Prelude.{◌≡◌, ◌⊎◌, ℕ, ◌+◌, ◌<◌, ◌≤◌, Bool, true, false, List, [], ◌∷◌, ◌++◌, length}
+use Rattle.std.specs.declared.option.Option.{Option}
+
+-- the line is handed out: itself up to 65,536 bytes, and its length above
+abbrev pub IsHandedOut : List ℕ → List ℕ → Next → Type 0
+IsHandedOut line kept nexts.Line = (kept ≡ line) × (length line ≤ 65536)
+IsHandedOut line kept (nexts.Long n) = (n ≡ length line) × (65536 < n)
+IsHandedOut line kept nexts.End = ⊥
+IsHandedOut line kept nexts.ReadFault = ⊥
+IsHandedOut line kept nexts.InputLimit = ⊥
+
+-- the bytes up to a newline, or at the end of the input those that are left
+abbrev pub IsPiece : List ℕ → Lines → Type 0
+IsPiece piece after =
+    (bytes : List ℕ) × IsUnbroken bytes × ((piece ≡ bytes ++ 10 ∷ []) ⊎ ((piece ≡ bytes) × (0 < length bytes) × (after.ended ≡ true) × (after.buffer ≡ [])))
+
+-- one piece goes from the bytes held and read, and its line is handed out; at the end of the input nothing more is read
+pub record HandsOut (held : List ℕ) (was_ended : Bool) (taken : ℕ) (after : Lines) (old new : Option (List ℕ)) (next : Next) : Type 0 where
+  pub more : List ℕ
+  pub piece : List ℕ
+  pub read : Consumes old new more
+  pub parts : held ++ more ≡ piece ++ after.buffer
+  pub is_piece : IsPiece piece after
+  pub line : IsHandedOut (line_of piece) after.line.kept next
+  pub counted : after.taken ≡ taken + length more
+  pub no_more : was_ended ≡ true → (more ≡ []) × (after.ended ≡ true)
+
+-- no line was decided by the bytes held and read
+pub record HasNoLine (held : List ℕ) (old new : Option (List ℕ)) : Type 0 where
+  pub more : List ℕ
+  pub read : Consumes old new more
+  pub unbroken : IsUnbroken (held ++ more)
+
+-- a line or the length of one is answered
+abbrev pub is_handed_out : Next → Bool
+is_handed_out nexts.Line = true
+is_handed_out (nexts.Long n) = true
+is_handed_out nexts.End = false
+is_handed_out nexts.ReadFault = false
+is_handed_out nexts.InputLimit = false
+
+-- no byte is held, and none was left
+pub record EndsAll (held : List ℕ) (after : Lines) (old new : Option (List ℕ)) : Type 0 where
+  pub read : Consumes old new []
+  pub nothing_held : held ≡ []
+  pub nothing_left : after.buffer ≡ []
+  pub ended : after.ended ≡ true
+
+-- the bytes held decide a line, or the input was read to its end, or no more is read
+abbrev pub IsDecided : Lines → Type 0
+IsDecided before =
+    ((before.ended ≡ true) ⊎ (IsUnbroken before.buffer → ⊥)) ⊎ ((before.faulted ≡ true) ⊎ (16777216 < before.taken))
+
+-- these bytes were read in a call, and the number of bytes taken grew by theirs
+pub record Takes (before after : ℕ) (old new : Option (List ℕ)) : Type 0 where
+  pub more : List ℕ
+  pub read : Consumes old new more
+  pub counted : after ≡ before + length more

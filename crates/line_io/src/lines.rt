@@ -1,0 +1,48 @@
+//! The lines of a source, one after another.
+ghost use Rattle.std.specs.Prelude.{◌≡◌, ◌≤◌, [], length, false, IfOk};
+
+use crate::line_buffer::LineBuffer;
+use crate::read_buffer::ReadBuffer;
+use ring_law::NoMemory;
+use std::alloc::Global;
+
+/// The lines of a source, read as they come into buffers that are taken once.
+#[derive(Drop)]
+pub struct Lines {
+    pub(crate) buffer: ReadBuffer,
+    pub(crate) line: LineBuffer,
+    pub(crate) taken: u64,
+    pub(crate) ended: bool,
+    pub(crate) faulted: bool,
+    ghost small: { length buffer ≤ 65536 },
+}
+
+impl Lines {
+    /// No byte was read yet. It takes the memory of both buffers.
+    pub fn new(alloc: Global) -> Result<Lines, NoMemory>
+        ensures empty { IfOk result (λ l. l.buffer ≡ []) }
+        ensures fresh { IfOk result (λ l. (l.taken ≡ 0) × (l.ended ≡ false) × (l.faulted ≡ false)) }
+    {
+        let buffer = match ReadBuffer::new(alloc) {
+            Ok(buffer) => buffer,
+            Err(error) => return Err(error),
+        };
+        match LineBuffer::new(alloc) {
+            Ok(line) => Ok(Lines {
+                buffer,
+                line,
+                taken: 0,
+                ended: false,
+                faulted: false,
+            }),
+            Err(error) => Err(error),
+        }
+    }
+
+    /// The line, after `Next::Line`.
+    pub fn line(&self) -> &[u8]
+        ensures { result.now ≡ self.now.line.kept }
+    {
+        self.line.kept()
+    }
+}

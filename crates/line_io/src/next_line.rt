@@ -1,0 +1,112 @@
+//! The next line of a source.
+ghost use Rattle.line_io.specs.Causes.{Rose};
+ghost use Rattle.line_io.specs.LineSoFar.{IsUnbroken, Pushes};
+ghost use Rattle.line_io.specs.Reading.{EndsAll, HandsOut, HasNoLine, IsDecided, Takes, is_handed_out};
+ghost use Rattle.std.specs.Io.KnownBytes.{Consumes, IsAtEnd, Keeps};
+ghost use Rattle.std.specs.Prelude.{◌≡◌, ◌≤◌, ◌<◌, ◌+◌, ◌^◌, ◌↔◌, ◌⊎◌, ◌++◌, ◌∷◌, ℕ, List, [], length, true, false, OnErr, OnOk};
+
+use crate::line::newline_at;
+use crate::lines::Lines;
+use crate::next::Next;
+use crate::whole::INPUT_LIMIT;
+use crate::{Failed, Source};
+
+impl Lines {
+    // Moves the bytes held into the line, up to a newline; true where there was one.
+    fn gather(&mut self) -> bool
+        requires small { self.old.line.total + length self.old.buffer < 2 ^ 64 }
+        ensures same { (self.new.taken ≡ self.old.taken) × (self.new.ended ≡ self.old.ended) × (self.new.faulted ≡ self.old.faulted) }
+        ensures found { result ≡ true → (front : List ℕ) × IsUnbroken front × (self.old.buffer ≡ (front ++ 10 ∷ []) ++ self.new.buffer) × Pushes self.old.line self.new.line front }
+        ensures all { result ≡ false → IsUnbroken self.old.buffer × (self.new.buffer ≡ []) × Pushes self.old.line self.new.line self.old.buffer }
+    {
+        let held = self.buffer.held();
+        match newline_at(held) {
+            Some(at) => {
+                let (front, _) = held.split_at(at);
+                self.line.push(front);
+                self.buffer.skip(at + 1);
+                true
+            }
+            None => {
+                let count = held.len();
+                self.line.push(held);
+                self.buffer.skip(count);
+                false
+            }
+        }
+    }
+
+    // Reads the next bytes into the empty buffer.
+    fn fill<S: Source>(&mut self, source: &mut S) -> Result<(), Failed>
+        requires empty { self.old.buffer ≡ [] }
+        requires open { self.old.taken ≤ INPUT_LIMIT }
+        ensures ok { OnOk result (Consumes (S.left source.old) (S.left source.new) self.new.buffer) }
+        ensures counted { OnOk result (self.new.taken ≡ self.old.taken + length self.new.buffer) }
+        ensures ended { OnOk result (self.new.ended ≡ true → IsAtEnd (S.left source.new)) }
+        ensures more { OnOk result (self.new.ended ≡ false → 0 < length self.new.buffer) }
+        ensures sound { OnOk result (self.new.faulted ≡ self.old.faulted) }
+        ensures line { self.new.line ≡ self.old.line }
+        ensures later { S.faults source.old ≤ S.faults source.new }
+        ensures failed { OnErr result (Rose (S.faults source.old) (S.faults source.new) × Keeps (S.left source.old) (S.left source.new)) }
+        ensures stopped { OnErr result ((self.new.buffer ≡ []) × (self.new.taken ≡ self.old.taken) × (self.new.ended ≡ self.old.ended) × (self.new.faulted ≡ true)) }
+    {
+        match self.buffer.refill(source) {
+            Ok(count) => {
+                self.taken += count as u64;
+                self.ended = count == 0;
+                Ok(())
+            }
+            Err(failed) => {
+                self.faulted = true;
+                Err(failed)
+            }
+        }
+    }
+
+    /// The next line of the source. It reads only where the bytes held decide no line and the input
+    /// was not read to its end.
+    ///
+    /// After `Next::Line` the line is `line`. `Next::Long` has the length of a line of more than
+    /// 65,536 bytes. `Next::End` comes where every byte of the input went with a line.
+    ///
+    /// Errors: `Next::ReadFault` only where a read failed, in this call or an earlier one, and
+    /// `Next::InputLimit` exactly where more than 16,777,216 bytes were taken; then no later call reads.
+    pub fn next_line<S: Source>(&mut self, source: &mut S) -> Next
+        ensures line { is_handed_out result ≡ true → HandsOut self.old.buffer self.old.ended self.old.taken self.new (S.left source.old) (S.left source.new) result }
+        ensures end { result ≡ Next.End → EndsAll self.old.buffer self.new (S.left source.old) (S.left source.new) }
+        ensures fault { result ≡ Next.ReadFault → (self.new.faulted ≡ true) × ((self.old.faulted ≡ true) ⊎ (Rose (S.faults source.old) (S.faults source.new) × HasNoLine self.old.buffer (S.left source.old) (S.left source.new))) }
+        ensures limit { (result ≡ Next.InputLimit) ↔ (INPUT_LIMIT < self.new.taken) }
+        ensures taken { Takes self.old.taken self.new.taken (S.left source.old) (S.left source.new) }
+        ensures ended { self.new.ended ≡ true → ((self.old.ended ≡ true) × (S.left source.new ≡ S.left source.old)) ⊎ IsAtEnd (S.left source.new) }
+        ensures unread { IsDecided self.old → (S.left source.new ≡ S.left source.old) × (S.faults source.new ≡ S.faults source.old) }
+        ensures sound { self.new.faulted ≡ true → (self.old.faulted ≡ true) ⊎ (result ≡ Next.ReadFault) }
+        ensures stays { self.old.faulted ≡ true → self.new.faulted ≡ true }
+        ensures later { S.faults source.old ≤ S.faults source.new }
+    {
+        if self.taken > INPUT_LIMIT as u64 {
+            return Next::InputLimit;
+        }
+        if self.faulted {
+            return Next::ReadFault;
+        }
+        self.line.clear();
+        loop {
+            if self.gather() {
+                return self.line.finish();
+            }
+            if self.ended {
+                if self.line.is_empty() {
+                    return Next::End;
+                }
+                return self.line.finish();
+            }
+            match self.fill(source) {
+                Ok(()) => {}
+                Err(_) => return Next::ReadFault,
+            }
+            if self.taken > INPUT_LIMIT as u64 {
+                return Next::InputLimit;
+            }
+        }
+    }
+}
