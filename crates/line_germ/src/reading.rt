@@ -112,3 +112,65 @@ pub fn read_line(alloc: Global, bytes: &[u8], limit: u8) -> Result<Read, NoMemor
         },
     }
 }
+
+#[cfg(test)]
+mod tests {
+    use super::*;
+    use std::test::Fail;
+
+    // An answer as a few numbers: the kind, then a column and whether it is the end, or the number of variables, the order and the number
+    // of terms, or the first byte of a name.
+    fn kind_of(read: &Read) -> [u32; 4] {
+        match read {
+            Read::Germ(germ) => [
+                0,
+                germ.names.len().min(8) as u32,
+                u32::from(germ.order),
+                germ.jet.len().min(999) as u32,
+            ],
+            Read::Syntax { column, what } => [1, *column, u32::from(*what == What::End), 0],
+            Read::Literal { column } => [2, *column, 0, 0],
+            Read::Range => [3, 0, 0, 0],
+            Read::NotCritical { variable } => [4, u32::from(variable.bytes[0]), 0, 0],
+        }
+    }
+
+    // Columns and kinds were found by hand and with another program.
+    #[test]
+    fn answers(rt: HostRuntime) -> Result<(), Fail> {
+        let cases: [(&[u8], [u32; 4]); 24] = [
+            (b"x^2+y^3", [0, 2, 16, 2]),
+            (b"-x^2/3+y*z", [0, 3, 16, 2]),
+            (b"[x] 5", [0, 1, 16, 0]),
+            (b"x-x+y^2", [0, 2, 16, 1]),
+            (b"a*b+c*d+e^2", [0, 5, 12, 3]),
+            (b"(x+y)^3-x*x*x", [0, 2, 16, 3]),
+            (b"x^999999999999999999", [0, 1, 16, 0]),
+            (b"(x-x)^0+y^2", [0, 2, 16, 1]),
+            (b"x^16+x^17", [0, 1, 16, 1]),
+            (b"(x+1)^999999999", [3, 0, 0, 0]),
+            (b"x^2+y", [4, 121, 0, 0]),
+            (b"x/2+y^2", [4, 120, 0, 0]),
+            (b"x+1000000000000000000", [2, 3, 0, 0]),
+            (b"x^00000000000000000002", [0, 1, 16, 1]),
+            (b"x^^2", [1, 3, 0, 0]),
+            (b"5", [1, 2, 1, 0]),
+            (b"[x1] x", [1, 7, 1, 0]),
+            (b"[x] x1", [1, 6, 0, 0]),
+            (b"[x,x]", [1, 5, 0, 0]),
+            (b"x1234", [1, 5, 0, 0]),
+            (b"a+b+c+d+e+f+g+h+i", [1, 17, 0, 0]),
+            (b"a+b+c+d+e+f+g+i5+i", [1, 19, 1, 0]),
+            (b"x/0", [1, 4, 1, 0]),
+            (b"x/0+y", [1, 4, 0, 0]),
+        ];
+        for (line, wanted) in cases {
+            let read = read_line(rt.alloc(), line, 16);
+            match &read {
+                Ok(read) => assert_eq!(rt; kind_of(read), wanted, "the answer to {line:?}"),
+                Err(_) => assert!(rt; false, "out of memory"),
+            }
+        }
+        Ok(())
+    }
+}
