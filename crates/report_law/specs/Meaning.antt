@@ -1,15 +1,17 @@
 -- What a valid report means for the polynomials: the printed quotient is free with the printed basis.
-use Rattle.std.specs.Prelude.{◌≡◌, ℕ, ◌<◌, List, ◌++◌, length}
+use Rattle.std.specs.Prelude.{◌≡◌, ℕ, ◌<◌, ◌≤◌, List, ◌++◌, length}
 use Rattle.std.specs.List.{AllByRecursion}
 use Rattle.ext_algebra.specs.Algebra.{Value}
 use Rattle.poly_law.specs.ExpList.{exps}
-use Rattle.poly_law.specs.Poly.{InIdeal, of_basis, values_of}
+use Rattle.poly_law.specs.Poly.{MatherRows, InIdeal, of_basis, values_of}
 use Rattle.poly_law.specs.Polynomials.{poly_in}
-use Rattle.line_syntax.specs.Syntax.{Line}
+use Rattle.line_syntax.specs.Syntax.{Line, names_of}
 use Rattle.cert_text.specs.declared.report.Named as named_type
+use Rattle.cert_text.specs.declared.report.Limit as limit_type
+use Rattle.cert_text.specs.WellFormed.{IsWellFormedLimit}
 use Rattle.report_law.specs.Polynomials.{PolynomialOver}
-use Rattle.report_law.specs.Items.{ring_of, residual_of, basis_of, values_of_row}
-use Rattle.report_law.specs.Valid.{NamedItem, named_items}
+use Rattle.report_law.specs.Items.{ring_of, germ_in, residual_of, basis_of, values_of_row}
+use Rattle.report_law.specs.Valid.{NamedItem, named_items, LimitItem, limit_items}
 
 -- f is in the ideal of the partials of the form's residual part, modulo the terms of degree above the order
 abbrev pub InJacobianIdeal : (r : named_type.Named) → PolynomialOver r.carried.corank r.carried.algebra → Type 0
@@ -33,3 +35,8 @@ pub record IsFree (r : named_type.Named) : Type 0 where
 -- of a valid named report the jets modulo the ideal are free, so that the Milnor number is their dimension
 abbrev pub NamedIsFree : Type 0
 NamedIsFree = (bytes : List ℕ) (l : Line) (r : named_type.Named) → AllByRecursion (NamedItem bytes l r) named_items → IsFree r
+
+-- the germ of a valid limit report, in its own variables and over the printed algebra, does not meet Mather's condition at the order or below
+abbrev pub LimitHasNoRows : Type 0
+LimitHasNoRows = (bytes : List ℕ) (l : Line) (r : limit_type.Limit) → IsWellFormedLimit r → AllByRecursion (LimitItem bytes l r) limit_items
+    → (k : ℕ) → k ≤ r.carried.order → MatherRows (exps (length (names_of l))) (ring_of r.carried) k (germ_in l r.carried.algebra) → ⊥

@@ -1,10 +1,16 @@
 //! What a valid report and a right report are, and what a valid one means.
 #![tactic(auto)]
 
-ghost use Rattle.report_law.specs.Meaning.{NamedIsFree};
+ghost use Rattle.report_law.specs.Meaning.{LimitHasNoRows, NamedIsFree};
 
 /// Of a valid named report the jets of the order modulo the partials of the form's residual part are
 /// free with the printed basis, so that the Milnor number is their dimension.
 pub fn named_is_free()
     ensures { NamedIsFree }
+{}
+
+/// The germ of a valid limit report does not meet Mather's condition at the order of the report or
+/// below.
+pub fn limit_has_no_rows()
+    ensures { LimitHasNoRows }
 {}
