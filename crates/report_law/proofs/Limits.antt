@@ -24,7 +24,7 @@ use Rattle.report_law.specs.Items.{ring_of, germ_in}
 use Rattle.report_law.specs.Meaning.{LimitHasNoRows}
 use Rattle.report_law.proofs.Splitting.{is_split-is}
 
-all_in : (n order : ℕ) (a : Algebra) (terms : List (Exp × Ext Frac)) → list_all (is_term_of n order a) terms ≡ true → list_all (λ t. is_monomial_in n t.0) terms ≡ true
+pub all_in : (n order : ℕ) (a : Algebra) (terms : List (Exp × Ext Frac)) → list_all (is_term_of n order a) terms ≡ true → list_all (λ t. is_monomial_in n t.0) terms ≡ true
 all_in n order a [] h = refl
 all_in n order a (t ∷ ts) h =
     let monomial = and_left (is_monomial_in n t.0) (nat_le (sum t.0.e) order)

@@ -8,9 +8,9 @@ use Rattle.poly_law.specs.Polynomials.{poly_in}
 use Rattle.line_syntax.specs.Syntax.{Line, names_of}
 use Rattle.cert_text.specs.declared.report.Named as named_type
 use Rattle.cert_text.specs.declared.report.Limit as limit_type
-use Rattle.cert_text.specs.WellFormed.{IsWellFormedLimit}
+use Rattle.cert_text.specs.WellFormed.{IsWellFormedLimit, IsWellFormedNamed}
 use Rattle.report_law.specs.Polynomials.{PolynomialOver}
-use Rattle.report_law.specs.Items.{ring_of, germ_in, residual_of, basis_of, values_of_row}
+use Rattle.report_law.specs.Items.{ring_of, germ_in, residual_of, basis_of, values_of_row, variables_of, jet_of}
 use Rattle.report_law.specs.Valid.{NamedItem, named_items, LimitItem, limit_items}
 
 -- f is in the ideal of the partials of the form's residual part, modulo the terms of degree above the order
@@ -40,3 +40,8 @@ NamedIsFree = (bytes : List ℕ) (l : Line) (r : named_type.Named) → AllByRecu
 abbrev pub LimitHasNoRows : Type 0
 LimitHasNoRows = (bytes : List ℕ) (l : Line) (r : limit_type.Limit) → IsWellFormedLimit r → AllByRecursion (LimitItem bytes l r) limit_items
     → (k : ℕ) → k ≤ r.carried.order → MatherRows (exps (length (names_of l))) (ring_of r.carried) k (germ_in l r.carried.algebra) → ⊥
+
+-- the form of a valid named report meets Mather's condition at the order, for all its monomials, those with square variables among them
+abbrev pub NamedHasRows : Type 0
+NamedHasRows = (bytes : List ℕ) (l : Line) (r : named_type.Named) → IsWellFormedNamed r → AllByRecursion (NamedItem bytes l r) named_items
+    → MatherRows (exps (variables_of r.carried)) (ring_of r.carried) r.carried.order (jet_of r.carried)

@@ -1,7 +1,7 @@
 //! What a valid report and a right report are, and what a valid one means.
 #![tactic(auto)]
 
-ghost use Rattle.report_law.specs.Meaning.{LimitHasNoRows, NamedIsFree};
+ghost use Rattle.report_law.specs.Meaning.{LimitHasNoRows, NamedHasRows, NamedIsFree};
 
 /// Of a valid named report the jets of the order modulo the partials of the form's residual part are
 /// free with the printed basis, so that the Milnor number is their dimension.
@@ -13,4 +13,10 @@ pub fn named_is_free()
 /// below.
 pub fn limit_has_no_rows()
     ensures { LimitHasNoRows }
+{}
+
+/// The form of a valid named report meets Mather's condition at the order of the report, for all its
+/// monomials, those with square variables among them.
+pub fn named_has_rows()
+    ensures { NamedHasRows }
 {}
