@@ -4,6 +4,8 @@
 mod carrying;
 mod evidence;
 mod report;
+#[cfg(test)]
+mod tests;
 mod word;
 mod wording;
 mod writing;

@@ -5,6 +5,8 @@ mod name;
 mod naming;
 mod number;
 mod polynomial;
+#[cfg(test)]
+mod tests;
 mod what;
 
 pub use name::Name;
