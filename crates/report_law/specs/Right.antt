@@ -7,7 +7,7 @@ use Rattle.ring_law.specs.Fraction.{frac_value}
 use Rattle.poly_law.specs.Sums.{power}
 use Rattle.ext_algebra.specs.declared.algebra.Algebra.{Algebra}
 use Rattle.ext_algebra.specs.declared.algebra.Algebra.TheVariants as algebras
-use Rattle.line_syntax.specs.Syntax.{Line}
+use Rattle.line_syntax.specs.Syntax.{Line, names_of}
 use Rattle.line_syntax.specs.Grammar.{Spells, has_small_literals}
 use Rattle.germ_law.specs.Germ.{IsCritical, line_limit}
 use Rattle.cert_text.specs.declared.report.Carried.{Carried}
@@ -45,6 +45,12 @@ pub record IsRead (bytes : List ℕ) : Type 0 where
 -- some line that the bytes spell is critical
 abbrev pub IsCriticalLine : List ℕ → Type 0
 IsCriticalLine bytes = (l : Line) × IsCritical bytes l
+
+-- the same, and it has more than one variable
+pub record IsManyVariables (bytes : List ℕ) : Type 0 where
+  pub line : Line
+  pub critical : IsCritical bytes line
+  pub many : 1 < length (names_of line)
 
 -- the order is at most the limit, and the algebra is a field
 pub record IsWithin (limit : ℕ) (c : Carried) : Type 0 where
