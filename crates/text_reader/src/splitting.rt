@@ -1,0 +1,31 @@
+//! Cutting bytes at a byte, and at a known front.
+
+ghost use Rattle.std.specs.Prelude.{◌≡◌, ◌≢◌, ℕ, ◌<◌, ◌==◌, None, List, ◌∷◌, ◌++◌, length, position, IfSome};
+ghost use Rattle.std.specs.List.{AllByRecursion};
+
+// The place of the first such byte.
+fn place_of(bytes: &[u8], byte: u8) -> Option<usize>
+    ensures at { result ≡ position (λ b. b == byte) bytes.now }
+    ensures within { IfSome result (λ at. at < length bytes.now) }
+{
+    bytes.iter().position(|b| *b == byte)
+}
+
+/// What stands before the first such byte and what stands behind it; `None` where there is none.
+pub fn split_at_byte(bytes: &[u8], byte: u8) -> Option<(&[u8], &[u8])>
+    ensures some { IfSome result (λ p. (bytes.now ≡ p.0.now ++ byte ∷ p.1.now) × AllByRecursion (λ b. b ≢ byte) p.0.now) }
+    ensures none { result ≡ None → AllByRecursion (λ b. b ≢ byte) bytes.now }
+{
+    match place_of(bytes, byte) {
+        None => None,
+        Some(at) => Some((&bytes[..at], &bytes[at + 1..])),
+    }
+}
+
+/// What stands behind this front; `None` where the bytes do not begin with it.
+pub fn strip_front<'a>(bytes: &'a [u8], front: &[u8]) -> Option<&'a [u8]>
+    ensures some { IfSome result (λ rest. bytes.now ≡ front.now ++ rest.now) }
+    ensures none { result ≡ None → (rest : List ℕ) → bytes.now ≡ front.now ++ rest → ⊥ }
+{
+    bytes.strip_prefix(front)
+}
