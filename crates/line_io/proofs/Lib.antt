@@ -1,3 +1,4 @@
+pub mod Handing
 pub mod Known
 pub mod Pieces
 pub mod Reading

@@ -2,7 +2,7 @@
 use Rattle.line_io.proofs.Known.{Consumes-none, Consumes-then}
 use Rattle.line_io.specs.LineSoFar.{LineSoFar, IsUnbroken, IsLineOf, Pushes, counted_length}
 use Rattle.line_io.specs.Lines.{line_of, pieces_of, without_last}
-use Rattle.line_io.specs.Reading.{IsHandedOut, HandsOut, HasNoLine, IsPiece, Takes, is_handed_out}
+use Rattle.line_io.specs.Reading.{IsHandedOut, HandsOut, HasNoLine, IsPiece, PassesLimit, Takes, is_handed_out}
 use Rattle.line_io.specs.declared.next.Next.TheVariants as nexts
 use Rattle.line_io.specs.declared.next.Next.{Next}
 use Rattle.line_io.specs.declared.lines.Lines.{Lines}
@@ -209,7 +209,7 @@ and_false : (t : Bool) → (t && false) ≡ false
 and_false true = refl
 and_false false = refl
 
-last_unbroken : (xs : List ℕ) → IsUnbroken xs → (not (eqb (length xs) 0) && eqb (slice_index xs (length xs - 1)) 10) ≡ false
+pub last_unbroken : (xs : List ℕ) → IsUnbroken xs → (not (eqb (length xs) 0) && eqb (slice_index xs (length xs - 1)) 10) ≡ false
 last_unbroken [] p = refl
 last_unbroken (x ∷ xs) p =
     let at : length (x ∷ xs) - 1 ≡ length xs = omega arith in
@@ -230,7 +230,7 @@ nothing_read before mid old new faults later bytes more (inr p) e = absurd cc
 
 pub hands_out_ended : (before mid after : Lines) (old new : Option (List ℕ)) (faults later : ℕ) (s : LineSoFar) (next : Next) → Gathers before mid old new faults later
     → (x : List ℕ) × IsUnbroken x × (mid.buffer ≡ (x ++ 10 ∷ []) ++ after.buffer) × Pushes mid.line s x → after.taken ≡ mid.taken → after.ended ≡ mid.ended
-    → ((bytes : List ℕ) → IsLineOf bytes s → IsHandedOut (without_last 13 bytes) after.line.kept next) → HandsOut before.buffer before.ended before.taken after old new next
+    → ((bytes : List ℕ) → IsLineOf bytes s → IsHandedOut (without_last 13 bytes) after.line.kept next) → HandsOut before after old new next
 hands_out_ended before mid after old new faults later s next i f number same out =
     let bytes = i.bytes ++ f.0 in
     let is_line = line_ended bytes in
@@ -248,7 +248,7 @@ hands_out_ended before mid after old new faults later s next i f number same out
 
 pub hands_out_rest : (before mid after : Lines) (old new : Option (List ℕ)) (faults later : ℕ) (s : LineSoFar) (next : Next) → Gathers before mid old new faults later
     → IsUnbroken mid.buffer × (after.buffer ≡ []) × Pushes mid.line s mid.buffer → after.taken ≡ mid.taken → after.ended ≡ true → (s.total ≡ 0 → ⊥)
-    → ((bytes : List ℕ) → IsLineOf bytes s → IsHandedOut (without_last 13 bytes) after.line.kept next) → HandsOut before.buffer before.ended before.taken after old new next
+    → ((bytes : List ℕ) → IsLineOf bytes s → IsHandedOut (without_last 13 bytes) after.line.kept next) → HandsOut before after old new next
 hands_out_rest before mid after old new faults later s next i f number ended some out =
     let bytes = i.bytes ++ mid.buffer in
     let unbroken = unbroken-append i.bytes mid.buffer i.unbroken f.0 in
@@ -292,22 +292,23 @@ Consumes-kept (Some first) None c xs p q = absurd p
 Consumes-kept (Some first) (Some second) None xs p q = absurd q
 Consumes-kept (Some first) (Some second) (Some third) xs p q = p ∙ ap (λ (t : List ℕ). xs ++ t) (sym q)
 
-pub gathers_none : (b : Lines) (old : Option (List ℕ)) (f : ℕ) → b.line ≡ record { kept = []; total = 0; last = 0 } → b.taken ≤ 16777216 → b.faulted ≡ false → Gathers b b old old f f
-gathers_none b old f e small sound =
+pub gathers_none : (before after : Lines) (old : Option (List ℕ)) (f : ℕ) → after.line ≡ record { kept = []; total = 0; last = 0 } → after.buffer ≡ before.buffer → after.taken ≡ before.taken → after.ended ≡ before.ended
+    → before.taken ≤ 16777216 → after.faulted ≡ false → Gathers before after old old f f
+gathers_none before after old f e same count end small sound =
     let P : LineSoFar → Type 0 = λ s. IsLineOf [] s in
     record {
       bytes = [];
       more = [];
       read = Consumes-none old;
-      parts = append-nil b.buffer;
+      parts = append-nil before.buffer ∙ sym same;
       unbroken = tt;
       line = subst P (sym e) (record { kept = refl; number = refl; last = λ lt. absurd (omega (arith, lt)) });
-      counted = omega arith;
-      open_still = small;
+      counted = omega (arith, count);
+      open_still = omega (arith, count, small);
       sound = sound;
       rises = omega arith;
-      first = inl (refl, refl, refl, refl, refl);
-      ended = λ is. inl (is, refl);
+      first = inl (refl, refl, end, refl, refl);
+      ended = λ is. inl (sym end ∙ is, refl);
     }
 
 pub gathers_small : (before mid : Lines) (old new : Option (List ℕ)) (faults later : ℕ) → Gathers before mid old new faults later → length before.buffer ≤ 65536 → mid.line.total + length mid.buffer < 18446744073709551616
@@ -315,17 +316,41 @@ gathers_small before mid old new faults later i small =
     let a = ap (λ (x : List ℕ). length x) i.parts in
     omega (arith, sym (length-append before.buffer i.more) ∙ a ∙ length-append i.bytes mid.buffer, i.line.number, i.counted, i.open_still, small)
 
-pub no_line : (before mid : Lines) (old new next : Option (List ℕ)) (faults later : ℕ) → Gathers before mid old new faults later → IsUnbroken mid.buffer → Keeps new next → HasNoLine before.buffer old next
-no_line before mid old new next faults later i unbroken kept =
+-- a loop that has not come to the end did not begin there
+was_going : (before mid : Lines) (old new : Option (List ℕ)) (faults later : ℕ) (bytes more : List ℕ) → mid.ended ≡ false
+    → ((more ≡ []) × (bytes ≡ []) × (mid.ended ≡ before.ended) × (new ≡ old) × (later ≡ faults)) ⊎ ((before.ended ≡ false) × IsUnbroken before.buffer) → before.ended ≡ false
+was_going before mid old new faults later bytes more going (inl p) = sym p.2 ∙ going
+was_going before mid old new faults later bytes more going (inr p) = p.0
+
+pub no_line : (before mid : Lines) (old new next : Option (List ℕ)) (faults later : ℕ) → Gathers before mid old new faults later → IsUnbroken mid.buffer → mid.ended ≡ false → Keeps new next → HasNoLine before old next
+no_line before mid old new next faults later i unbroken going kept =
     let P : List ℕ → Type 0 = λ x. IsUnbroken x in
     record {
       more = i.more;
       read = Consumes-kept old new next i.more i.read kept;
       unbroken = subst P (sym i.parts) (unbroken-append i.bytes mid.buffer i.unbroken unbroken);
+      going = was_going before mid old new faults later i.bytes i.more going i.first;
+    }
+
+-- the read that passes the limit
+pub passes_limit : (before mid gathered after : Lines) (old new next : Option (List ℕ)) (faults later : ℕ) → Gathers before mid old new faults later
+    → (gathered.taken ≡ mid.taken) × (gathered.ended ≡ mid.ended) × (gathered.faulted ≡ mid.faulted) → IsUnbroken mid.buffer → gathered.ended ≡ false
+    → Consumes new next after.buffer → after.taken ≡ gathered.taken + length after.buffer → 16777216 < after.taken → length after.buffer ≤ 65536 → PassesLimit before old next
+passes_limit before mid gathered after old new next faults later i same unbroken going read counted past few =
+    let P : List ℕ → Type 0 = λ x. IsUnbroken x in
+    record {
+      more = i.more;
+      last = after.buffer;
+      read = Consumes-then old new next i.more after.buffer i.read read;
+      unbroken = subst P (sym i.parts) (unbroken-append i.bytes mid.buffer i.unbroken unbroken);
+      going = was_going before mid old new faults later i.bytes i.more (sym same.1 ∙ going) i.first;
+      within = omega (arith, i.counted, i.open_still);
+      past = omega (arith, i.counted, same.0, counted, past);
+      few = few;
     }
 
 pub takes_more : (before mid after : Lines) (old new next : Option (List ℕ)) (faults later taken : ℕ) → Gathers before mid old new faults later → taken ≡ mid.taken → Consumes new next after.buffer
-    → after.taken ≡ taken + length after.buffer → Takes before.taken after.taken old next
+    → after.taken ≡ taken + length after.buffer → Takes before after old next
 takes_more before mid after old new next faults later taken i same read counted = record {
   more = i.more ++ after.buffer;
   read = Consumes-then old new next i.more after.buffer i.read read;
@@ -369,7 +394,7 @@ unfolding pieces_of
 pieces_ended [] rest p = refl
 pieces_ended (b ∷ bs) rest p = rw (is_not_newline b p.0, pieces_ended bs rest p.1) refl
 
-pieces_last : (b : ℕ) (bs : List ℕ) → IsUnbroken (b ∷ bs) → pieces_of (b ∷ bs) ≡ (b ∷ bs) ∷ []
+pub pieces_last : (b : ℕ) (bs : List ℕ) → IsUnbroken (b ∷ bs) → pieces_of (b ∷ bs) ≡ (b ∷ bs) ∷ []
 unfolding pieces_of
 pieces_last b [] p = rw (is_not_newline b p.0) refl
 pieces_last b (c ∷ bs) p = rw (is_not_newline b p.0, pieces_last c bs p.1) refl

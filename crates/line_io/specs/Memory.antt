@@ -20,9 +20,45 @@ source_left s = drop s.given s.bytes.items
 abbrev pub clean_left : CleanSource → List ℕ
 clean_left s = drop s.given s.bytes.items
 
+-- at most how many bytes a call of the source gives
+abbrev pub source_step : MemSource → ℕ
+source_step s = s.step
+
+-- the numbers of the calls at which the source fails
+abbrev pub source_failing : MemSource → List ℕ
+source_failing s = s.failing.items
+
+-- the number of calls of the source so far
+abbrev pub source_calls : MemSource → ℕ
+source_calls s = s.calls
+
+-- the number of the source's faults so far
+abbrev pub source_faults : MemSource → ℕ
+source_faults s = s.faults
+
 -- the bytes that a sink took
 abbrev pub sink_taken : MemSink → List ℕ
 sink_taken s = s.bytes.items
+
+-- how many bytes the sink takes in all
+abbrev pub sink_room : MemSink → ℕ
+sink_room s = s.room
+
+-- at most how many bytes a call of the sink takes
+abbrev pub sink_step : MemSink → ℕ
+sink_step s = s.step
+
+-- the numbers of the calls at which the sink fails
+abbrev pub sink_failing : MemSink → List ℕ
+sink_failing s = s.failing.items
+
+-- the number of calls of the sink so far
+abbrev pub sink_calls : MemSink → ℕ
+sink_calls s = s.calls
+
+-- the number of the sink's faults so far
+abbrev pub sink_faults : MemSink → ℕ
+sink_faults s = s.faults
 
 -- a source of these bytes before its first call
 pub record IsNewSource (bytes : List ℕ) (step : ℕ) (failing : List ℕ) (s : MemSource) : Type 0 where

@@ -18,10 +18,11 @@ pub struct Lines {
 }
 
 impl Lines {
+    ghost use Rattle.line_io.specs.Reading.{IsFresh, current_line};
+
     /// No byte was read yet. It takes the memory of both buffers.
     pub fn new(alloc: Global) -> Result<Lines, NoMemory>
-        ensures empty { IfOk result (λ l. l.buffer ≡ []) }
-        ensures fresh { IfOk result (λ l. (l.taken ≡ 0) × (l.ended ≡ false) × (l.faulted ≡ false)) }
+        ensures fresh { IfOk result IsFresh }
     {
         let buffer = match ReadBuffer::new(alloc) {
             Ok(buffer) => buffer,
@@ -41,7 +42,7 @@ impl Lines {
 
     /// The line, after `Next::Line`.
     pub fn line(&self) -> &[u8]
-        ensures { result.now ≡ self.now.line.kept }
+        ensures { result.now ≡ current_line self.now }
     {
         self.line.kept()
     }

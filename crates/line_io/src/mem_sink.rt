@@ -63,19 +63,19 @@ impl MemSink {
 }
 
 impl Sink for MemSink {
-    ghost use Rattle.line_io.specs.Memory.{IsNextSink, is_failing, next_call, sink_taken};
+    ghost use Rattle.line_io.specs.Memory.{IsNextSink, is_failing, next_call, sink_calls, sink_failing, sink_faults, sink_room, sink_step, sink_taken};
 
     ghost taken = { λ s. Some (sink_taken s) };
 
-    ghost faults = { λ s. s.faults };
+    ghost faults = { λ s. sink_faults s };
 
     fn write(&mut self, piece: &[u8]) -> Result<usize, Failed>
         ensures bound { WritesAtMost result piece.now }
         ensures bytes { WriteAppends (Some (sink_taken self.old)) (Some (sink_taken self.new)) result piece.now }
-        ensures cause { HasCause self.old.faults self.new.faults result }
-        ensures stuck { IsStuck result piece.now → Rose self.old.faults self.new.faults }
-        ensures fails { is_err result ≡ is_failing self.old.failing.items (next_call self.old.calls) }
-        ensures takes { IfOk result (λ n. n ≡ min (min (length piece.now) (self.old.room - length (sink_taken self.old))) self.old.step) }
+        ensures cause { HasCause (sink_faults self.old) (sink_faults self.new) result }
+        ensures stuck { IsStuck result piece.now → Rose (sink_faults self.old) (sink_faults self.new) }
+        ensures fails { is_err result ≡ is_failing (sink_failing self.old) (next_call (sink_calls self.old)) }
+        ensures takes { IfOk result (λ n. n ≡ min (min (length piece.now) (sink_room self.old - length (sink_taken self.old))) (sink_step self.old)) }
         ensures next { IsNextSink self.old self.new }
     {
         self.calls = self.calls.saturating_add(1);

@@ -54,18 +54,18 @@ impl MemSource {
 }
 
 impl Source for MemSource {
-    ghost use Rattle.line_io.specs.Memory.{IsNextSource, is_failing, next_call, source_left};
+    ghost use Rattle.line_io.specs.Memory.{IsNextSource, is_failing, next_call, source_calls, source_failing, source_faults, source_left, source_step};
 
     ghost left = { λ s. Some (source_left s) };
 
-    ghost faults = { λ s. s.faults };
+    ghost faults = { λ s. source_faults s };
 
     fn read(&mut self, buf: &mut [u8]) -> Result<usize, Failed>
         ensures bound { ReadsAtMost result buf.new }
         ensures bytes { ReadConsumes (Some (source_left self.old)) (Some (source_left self.new)) result buf.new }
-        ensures cause { HasCause self.old.faults self.new.faults result }
-        ensures fails { is_err result ≡ is_failing self.old.failing.items (next_call self.old.calls) }
-        ensures gives { IfOk result (λ n. n ≡ min (min (length (source_left self.old)) (length buf.old)) self.old.step) }
+        ensures cause { HasCause (source_faults self.old) (source_faults self.new) result }
+        ensures fails { is_err result ≡ is_failing (source_failing self.old) (next_call (source_calls self.old)) }
+        ensures gives { IfOk result (λ n. n ≡ min (min (length (source_left self.old)) (length buf.old)) (source_step self.old)) }
         ensures next { IsNextSource self.old self.new }
     {
         self.calls = self.calls.saturating_add(1);

@@ -1,7 +1,7 @@
 //! The next line of a source.
 ghost use Rattle.line_io.specs.Causes.{Rose};
 ghost use Rattle.line_io.specs.LineSoFar.{IsUnbroken, Pushes};
-ghost use Rattle.line_io.specs.Reading.{EndsAll, HandsOut, HasNoLine, IsDecided, Takes, is_handed_out};
+ghost use Rattle.line_io.specs.Reading.{EndsAll, HandsOut, HasNoLine, IsDecided, PassesLimit, Takes, has_ended, has_failed, is_handed_out, taken_count};
 ghost use Rattle.std.specs.Io.KnownBytes.{Consumes, IsAtEnd, Keeps};
 ghost use Rattle.std.specs.Prelude.{◌≡◌, ◌≤◌, ◌<◌, ◌+◌, ◌^◌, ◌↔◌, ◌⊎◌, ◌++◌, ◌∷◌, ℕ, List, [], length, true, false, OnErr, OnOk};
 
@@ -72,15 +72,16 @@ impl Lines {
     /// Errors: `Next::ReadFault` only where a read failed, in this call or an earlier one, and
     /// `Next::InputLimit` exactly where more than 16,777,216 bytes were taken; then no later call reads.
     pub fn next_line<S: Source>(&mut self, source: &mut S) -> Next
-        ensures line { is_handed_out result ≡ true → HandsOut self.old.buffer self.old.ended self.old.taken self.new (S.left source.old) (S.left source.new) result }
-        ensures end { result ≡ Next.End → EndsAll self.old.buffer self.new (S.left source.old) (S.left source.new) }
-        ensures fault { result ≡ Next.ReadFault → (self.new.faulted ≡ true) × ((self.old.faulted ≡ true) ⊎ (Rose (S.faults source.old) (S.faults source.new) × HasNoLine self.old.buffer (S.left source.old) (S.left source.new))) }
-        ensures limit { (result ≡ Next.InputLimit) ↔ (INPUT_LIMIT < self.new.taken) }
-        ensures taken { Takes self.old.taken self.new.taken (S.left source.old) (S.left source.new) }
-        ensures ended { self.new.ended ≡ true → ((self.old.ended ≡ true) × (S.left source.new ≡ S.left source.old)) ⊎ IsAtEnd (S.left source.new) }
+        ensures line { is_handed_out result ≡ true → HandsOut self.old self.new (S.left source.old) (S.left source.new) result }
+        ensures end { result ≡ Next.End → EndsAll self.old self.new (S.left source.old) (S.left source.new) }
+        ensures fault { result ≡ Next.ReadFault → (has_failed self.new ≡ true) × ((has_failed self.old ≡ true) ⊎ (Rose (S.faults source.old) (S.faults source.new) × HasNoLine self.old (S.left source.old) (S.left source.new))) }
+        ensures limit { (result ≡ Next.InputLimit) ↔ (INPUT_LIMIT < taken_count self.new) }
+        ensures passed { result ≡ Next.InputLimit → (INPUT_LIMIT < taken_count self.old) ⊎ PassesLimit self.old (S.left source.old) (S.left source.new) }
+        ensures taken { Takes self.old self.new (S.left source.old) (S.left source.new) }
+        ensures ended { has_ended self.new ≡ true → ((has_ended self.old ≡ true) × (S.left source.new ≡ S.left source.old)) ⊎ IsAtEnd (S.left source.new) }
         ensures unread { IsDecided self.old → (S.left source.new ≡ S.left source.old) × (S.faults source.new ≡ S.faults source.old) }
-        ensures sound { self.new.faulted ≡ true → (self.old.faulted ≡ true) ⊎ (result ≡ Next.ReadFault) }
-        ensures stays { self.old.faulted ≡ true → self.new.faulted ≡ true }
+        ensures sound { has_failed self.new ≡ true → (has_failed self.old ≡ true) ⊎ (result ≡ Next.ReadFault) }
+        ensures stays { has_failed self.old ≡ true → has_failed self.new ≡ true }
         ensures later { S.faults source.old ≤ S.faults source.new }
     {
         if self.taken > INPUT_LIMIT as u64 {

@@ -1,9 +1,9 @@
-use Rattle.line_io.proofs.Reading.{gathers_none, gathers_small, gathers_more, hands_out_ended, hands_out_rest, not_after, no_line, takes_more}
+use Rattle.line_io.proofs.Reading.{gathers_none, gathers_small, gathers_more, hands_out_ended, hands_out_rest, not_after, no_line, passes_limit, takes_more}
 use Rattle.line_io.proofs.lines.Lines.next_line.Goals as goal
-use Rattle.std.proofs.Common.{rules, refl, arith, inr}
+use Rattle.std.proofs.Common.{rules, refl, arith, inr, sym, ◌∙◌}
 
 pub loop-self-init : goal.loop-self-init
-loop-self-init g c = gathers_none _ _ _ c.clear.ensures (omega (arith, c.if-self.false)) c.if-self-2.false
+loop-self-init g c = gathers_none c.args.self.now _ _ _ c.clear.ensures refl refl refl (omega (arith, c.if-self.false)) c.if-self-2.false
 
 pub gather-requires : goal.gather-requires
 gather-requires g c = record { small = gathers_small _ c.loop-self.self _ _ _ _ c.loop-self.invariant c.args.self.now.small }
@@ -41,7 +41,7 @@ returns-then-self-3-clause-limit g c = (
 pub returns-in-Err-clause-fault : goal.returns-in-Err-clause-fault
 returns-in-Err-clause-fault g c =
     let failed = c.in-Err.ensures.failed in
-    λ _. (c.in-Err.ensures.stopped.3, inr (omega (arith, failed.0, c.loop-self.invariant.rises), no_line _ c.loop-self.self _ _ _ _ _ c.loop-self.invariant (c.if-gather.ensures.all refl).0 failed.1))
+    λ _. (c.in-Err.ensures.stopped.3, inr (omega (arith, failed.0, c.loop-self.invariant.rises), no_line _ c.loop-self.self _ _ _ _ _ c.loop-self.invariant (c.if-gather.ensures.all refl).0 (sym c.gather.ensures.same.1 ∙ c.if-self-3.false) failed.1))
 
 pub returns-then-self-4-clause-taken : goal.returns-then-self-4-clause-taken
 returns-then-self-4-clause-taken g c = takes_more _ c.loop-self.self c.fill.new.self _ _ _ _ _ _ c.loop-self.invariant c.gather.ensures.same.0 c.in-Ok.ensures.ok c.in-Ok.ensures.counted
@@ -50,3 +50,14 @@ pub loop-self-preserved : goal.loop-self-preserved
 loop-self-preserved g c =
     gathers_more _ c.loop-self.self c.gather.new.self _ _ _ _ _ _ _ c.loop-self.invariant c.gather.ensures.same (c.if-gather.ensures.all refl) c.if-self-3.false
     c.in-Ok.ensures.ok c.in-Ok.ensures.counted c.in-Ok.ensures.line c.in-Ok.ensures.sound c.in-Ok.ensures.ended (omega (arith, c.if-self-4.false)) c.in-Ok.ensures.later
+
+pub returns-then-self-4-clause-passed : goal.returns-then-self-4-clause-passed
+returns-then-self-4-clause-passed g c =
+    λ _. inr (passes_limit _ c.loop-self.self c.gather.new.self c.fill.new.self _ _ _ _ _ c.loop-self.invariant c.gather.ensures.same (c.if-gather.ensures.all refl).0 c.if-self-3.false
+    c.in-Ok.ensures.ok c.in-Ok.ensures.counted (omega (arith, c.if-self-4.true)) c.fill.new.self.small)
+
+pub returns-then-gather-clause-passed : goal.returns-then-gather-clause-passed
+returns-then-gather-clause-passed g c = λ e. not_after _ c.loop-self.self _ _ _ _ _ _ _ _ _ c.loop-self.invariant (c.if-gather.ensures.found refl).3 c.finish.ensures e refl
+
+pub returns-then-self-3-clause-passed : goal.returns-then-self-3-clause-passed
+returns-then-self-3-clause-passed g c = λ e. not_after _ c.loop-self.self _ _ _ _ _ _ _ _ _ c.loop-self.invariant (c.if-gather.ensures.all refl).2 c.finish-then-self-3.ensures e refl
