@@ -11,4 +11,6 @@ mod wording;
 mod writing;
 
 pub use report::{Answer, Carried, Limit, Named, Outside, Phase, Report, Unresolved};
+pub use word::Word;
+pub use wording::word_bytes;
 pub use writing::write_report;

@@ -11,8 +11,9 @@ use normal_forms::{Family, Pattern};
 use poly_text::{What, put_number};
 use std::alloc::AllocError;
 
+/// The bytes of a word.
 #[tactic(auto, unfolding(crate::specs::Words::word_text))]
-fn bytes_of(word: Word) -> &'static [u8]
+pub fn word_bytes(word: Word) -> &'static [u8]
     ensures { result.now ≡ word_text word }
 {
     match word {
@@ -51,7 +52,7 @@ fn bytes_of(word: Word) -> &'static [u8]
 pub fn put_word(out: &mut Vec<u8>, word: Word) -> Result<(), AllocError>
     ensures { OnOk result (out.new.items ≡ out.old.items ++ word_text word) }
 {
-    out.extend_from_slice(bytes_of(word))
+    out.extend_from_slice(word_bytes(word))
 }
 
 /// Appends a line of one word.

@@ -1,5 +1,5 @@
 -- What a checker says of a text of reports.
-use Rattle.std.specs.Prelude.{◌≡◌, ℕ, ◌≤◌, ◌<◌, List, [], ◌∷◌, ◌++◌, length, take, codes, decimal, flat_map, ◌⊎◌}
+use Rattle.std.specs.Prelude.{◌≡◌, ℕ, ◌<◌, List, [], ◌∷◌, ◌++◌, codes, decimal, flat_map, ◌⊎◌}
 use Rattle.std.specs.List.{AllZip, AllByRecursion}
 use Rattle.line_syntax.specs.Syntax.{Line}
 use Rattle.germ_law.specs.Germ.{IsCritical, line_limit}
@@ -10,6 +10,7 @@ use Rattle.cert_text.specs.declared.report.Report.{Report}
 use Rattle.cert_text.specs.declared.report.Report.TheVariants as reports
 use Rattle.cert_text.specs.Text.{report_text, line}
 use Rattle.cert_text.specs.WellFormed.{IsWellFormed}
+use Rattle.cert_text.specs.BadText.{IsBadText}
 use Rattle.report_law.specs.Items.{IsSyntaxRefusal, IsLiteralRefusal, IsNotCritical}
 use Rattle.report_law.specs.Valid.{Item, IsValid, NamedItem, OutsideItem, LimitItem, UnresolvedItem, named_items, outside_items, limit_items, unresolved_items}
 use Rattle.report_law.specs.Valid as items
@@ -112,24 +113,6 @@ IsReachedIn (reports.Line bytes (answers.Named r)) item = IsReachedOf bytes (λ 
 IsReachedIn (reports.Line bytes (answers.Outside r)) item = IsReachedOf bytes (λ l. OutsideItem bytes l r) outside_items item
 IsReachedIn (reports.Line bytes (answers.Limit r)) item = IsReachedOf bytes (λ l. LimitItem bytes l r) limit_items item
 IsReachedIn (reports.Line bytes (answers.Unresolved r)) item = IsReachedOf bytes (λ l. UnresolvedItem bytes l r) unresolved_items item
-
--- ---- bytes that are no report
-
--- empty, or ended by a newline
-abbrev pub IsWholeLines : List ℕ → Type 0
-IsWholeLines bytes = (bytes ≡ []) ⊎ ((front : List ℕ) × (bytes ≡ front ++ 10 ∷ []))
-
--- some well-formed report's text begins so
-abbrev pub BeginsReport : List ℕ → Type 0
-BeginsReport front = (r : Report) × IsWellFormed r × ((more : List ℕ) × (report_text r ≡ front ++ more))
-
--- no well-formed report has these bytes, and the first `offset` of them are the most whole lines that begin a report's text
-pub record IsBadText (bytes : List ℕ) (offset : ℕ) : Type 0 where
-  pub none : (r : Report) → IsWellFormed r → report_text r ≡ bytes → ⊥
-  pub within : offset ≤ length bytes
-  pub lines : IsWholeLines (take offset bytes)
-  pub begins : BeginsReport (take offset bytes)
-  pub longest : (k : ℕ) → offset < k → k ≤ length bytes → IsWholeLines (take k bytes) → BeginsReport (take k bytes) → ⊥
 
 -- ---- verdicts
 
