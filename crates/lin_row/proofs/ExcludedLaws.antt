@@ -169,14 +169,14 @@ module _ {E V : Type 0} (m : Meaning E V) (laws : IsCommRing m.scalars.ops) wher
   dot-one c x w = laws.add_zero (mul (m.value x) (w c))
 
   -- values that began as x at a column without pivot exclude what is left of a target, with x its inverse entry there
-  pub excludes : (ps : List (ℕ × List (ℕ × E))) (u : ℕ) (left v : List (ℕ × E)) (c : ℕ) (x : V) → c < u → IsCleared m ps left → AllBelow u ps → mul (entry m left c) x ≡ m.scalars.ops.one → IsLine m v → AllVanish m ps (entry m v)
-      → ((w : ℕ → V) → ZeroAtPivots m.scalars ps w → dot m v w ≡ mul x (w c)) → Excludes m u ps left v
-  excludes ps u left v c x low cleared below unit is_line vanish same =
+  pub excludes : (ps : List (ℕ × List (ℕ × E))) (left v : List (ℕ × E)) (c : ℕ) (x : V) → c ≡ lead_of left → IsCleared m ps left → mul (entry m left c) x ≡ m.scalars.ops.one → IsLine m v → AllVanish m ps (entry m v)
+      → ((w : ℕ → V) → ZeroAtPivots m.scalars ps w → dot m v w ≡ mul x (w c)) → Excludes m ps left v
+  excludes ps left v c x is_lead cleared unit is_line vanish same =
       record {
         line = is_line;
         vanish = vanish;
         one = dot-swap left v ∙ same (entry m left) (zero_cleared ps left cleared) ∙ laws.mul_comm x (entry m left c) ∙ unit;
-        high = λ d beyond. same (unit_at m.scalars.ops d) (zero_beyond ps u d beyond below) ∙ ap (mul x) (LineLaws.unit_other m laws d c (λ e. omega arith)) ∙ RingFacts.mul_zero m.scalars.ops laws x;
+        beyond = λ a below low d high. same (unit_at m.scalars.ops d) (zero_beyond ps a d high below) ∙ ap (mul x) (LineLaws.unit_other m laws d c (λ e. omega arith)) ∙ RingFacts.mul_zero m.scalars.ops laws x;
       }
 
   pub inverse_unit : (nontrivial : m.scalars.ops.one ≢ m.scalars.ops.zero) (v f : V) → mul v f ≡ m.scalars.ops.one → f ≢ m.scalars.ops.zero

@@ -8,3 +8,5 @@ pub mod ExcludedLaws
 pub mod FormLaws
 pub mod KernelLaws
 pub mod FormSteps
+pub mod BoundLaws
+pub mod ReductionLaws

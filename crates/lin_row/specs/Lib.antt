@@ -5,3 +5,4 @@ pub mod Rows
 pub mod Forms
 pub mod Stages
 pub mod Systems
+pub mod Reductions

@@ -96,7 +96,27 @@ pub record TargetIsHigh {V : Type 0} (s : Scalars V) (u : ℕ) (rows : List (ℕ
   pub finished : (d : ℕ) → d < u → AllZeroIn s stage.rest d
   pub high : ClearingIsHigh s stage.done t ⊎ DivisionIsHigh s u stage.done (reduced_target s stage.done t)
 
--- the rows with entry 1 in a unit column of their own: the row with number i has it in the column u + k + i
+-- rows by their entries, with entry 1 in a unit column of their own: the row with number i has it in the column u + k + i
+abbrev pub units_added : {V : Type 0} → Scalars V → ℕ → ℕ → List (ℕ → V) → List (ℕ → V)
+units_added s u k [] = []
+units_added s u k (x ∷ xs) = (λ d. s.ops.add (x d) (unit_at s.ops (u + k) d)) ∷ units_added s u (suc k) xs
+
+-- the same of rows
 abbrev pub with_units : {E V : Type 0} → Meaning E V → ℕ → ℕ → List (List (ℕ × E)) → List (ℕ → V)
-with_units m u k [] = []
-with_units m u k (row ∷ rows) = (λ d. m.scalars.ops.add (entry m row d) (unit_at m.scalars.ops (u + k) d)) ∷ with_units m u (suc k) rows
+with_units m u k rows = units_added m.scalars u k (map (entry m) rows)
+
+-- the plain row reduction came to an end, and the reduction of the target by its rows is high
+pub record RemainderIsHigh {V : Type 0} (s : Scalars V) (u : ℕ) (rows : List (ℕ → V)) (t : ℕ → V) : Type 0 where
+  pub stage : Stage V
+  pub reached : Reached s u rows stage
+  pub finished : (d : ℕ) → d < u → AllZeroIn s stage.rest d
+  pub high : ClearingIsHigh s stage.done t
+
+-- for rows and targets by their entries: the plain row reduction of the rows with unit columns from 2^32 on is high, or the reduction of a target
+-- by its rows, or the division by the target's first entry left
+abbrev pub EliminationIsHigh : {V : Type 0} → Scalars V → List (ℕ → V) → List (ℕ → V) → Type 0
+EliminationIsHigh s rows targets = ReductionIsHigh s 4294967296 (units_added s 4294967296 0 rows) ⊎ Among (TargetIsHigh s 4294967296 (units_added s 4294967296 0 rows)) targets
+
+-- the same without the division
+abbrev pub ReductionOfIsHigh : {V : Type 0} → Scalars V → List (ℕ → V) → List (ℕ → V) → Type 0
+ReductionOfIsHigh s rows targets = ReductionIsHigh s 4294967296 (units_added s 4294967296 0 rows) ⊎ Among (RemainderIsHigh s 4294967296 (units_added s 4294967296 0 rows)) targets

@@ -1,7 +1,7 @@
 -- Rows, and what solves or excludes a target.
 use Rattle.std.specs.Prelude.{◌≡◌, ℕ, List, [], ◌∷◌, ⊤, map, length}
 use Rattle.ring_theory.specs.Scalars.{Meaning}
-use Rattle.lin_row.specs.Lines.{IsLine, EachOf, dot, entry}
+use Rattle.lin_row.specs.Lines.{IsLine, AllBelow, EachOf, dot, entry}
 use Rattle.lin_row.specs.System.{RowsVanish, combination}
 use Rattle.lin_row.specs.declared.row.Row.{Row}
 use Rattle.lin_row.specs.declared.row.Solution.{Solution}
@@ -23,11 +23,12 @@ pub record IsSolved {E V : Type 0} (m : Meaning E V) (given : List (List (ℕ ×
   pub valid : EachOf m.is_elem xs
   pub sum : (w : ℕ → V) → combination m (map m.value xs) given w ≡ dot m target w
 
--- values of the columns at which each row vanishes and the target is 1
+-- values of the columns at which each row vanishes and the target is 1; they stand in columns below each bound of those of the rows and the target
 pub record IsExcluded {E V : Type 0} (m : Meaning E V) (given : List (List (ℕ × E))) (excluded values : List (ℕ × E)) : Type 0 where
   pub line : IsLine m values
   pub rows : RowsVanish m given (entry m values)
   pub target : dot m excluded (entry m values) ≡ m.scalars.ops.one
+  pub below : (a : ℕ) → EachOf (AllBelow a) given → AllBelow a excluded → AllBelow a values
 
 -- coefficients whose combination of the rows is the target, or values that exclude one
 abbrev pub IsSolution : {E V : Type 0} → Meaning E V → List (Row E) → List (ℕ × E) → Solution E → Type 0

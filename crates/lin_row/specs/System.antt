@@ -2,7 +2,7 @@
 use Rattle.std.specs.Prelude.{◌≡◌, ◌≢◌, ℕ, zero, suc, ◌-◌, ◌<◌, ◌≤◌, List, [], ◌∷◌, ⊤, ◌⊎◌, cond, nat_lt, length, get_or}
 use Rattle.std.proofs.Common.{Vec, Global}
 use Rattle.ring_theory.specs.Scalars.{Scalars, Meaning}
-use Rattle.lin_row.specs.Lines.{EachOf, IsLine, IsRising, AllBelow, dot, entry}
+use Rattle.lin_row.specs.Lines.{EachOf, IsLine, IsRising, AllBelow, lead_of, dot, entry}
 
 -- new is a row and a multiple of another
 pub record AddsMultiple {E V : Type 0} (m : Meaning E V) (row other new : List (ℕ × E)) : Type 0 where
@@ -121,12 +121,12 @@ pub record FirstBelow {E : Type 0} (u : ℕ) (row : List (ℕ × E)) (first : �
   pub read : first ≡ get_or row 0 first
   pub below : first.0 < u
 
--- values of columns below u at which the pivots' rows vanish, and the row is 1
-pub record Excludes {E V : Type 0} (m : Meaning E V) (u : ℕ) (pivots : List (ℕ × List (ℕ × E))) (row values : List (ℕ × E)) : Type 0 where
+-- values at which the pivots' rows vanish, and the row is 1; there are none beyond the columns of the pivots and the row's first one
+pub record Excludes {E V : Type 0} (m : Meaning E V) (pivots : List (ℕ × List (ℕ × E))) (row values : List (ℕ × E)) : Type 0 where
   pub line : IsLine m values
   pub vanish : AllVanish m pivots (entry m values)
   pub one : dot m row (entry m values) ≡ m.scalars.ops.one
-  pub high : (d : ℕ) → u ≤ d → entry m values d ≡ m.scalars.ops.zero
+  pub beyond : (a : ℕ) → AllBelow a pivots → lead_of row < a → (d : ℕ) → a ≤ d → entry m values d ≡ m.scalars.ops.zero
 
 -- the sum over the pivots of w at the pivot times the negative of its row's entry at the column c
 abbrev pub front_value : {E V : Type 0} → Meaning E V → List (ℕ × List (ℕ × E)) → ℕ → (ℕ → V) → V

@@ -116,7 +116,7 @@ pub fn excluding<F: Field>(
     requires line { IsLine (F.meaning field.now) left.now }
     requires cleared { IsCleared (F.meaning field.now) (lines_of pivots.now) left.now }
     requires given { lead_of left.now < 4294967296 }
-    ensures { IfOk result (λ v. Excludes (F.meaning field.now) 4294967296 (lines_of pivots.now) left.now v.items) }
+    ensures { IfOk result (λ v. Excludes (F.meaning field.now) (lines_of pivots.now) left.now v.items) }
 {
     let column = lead(left);
     let inverse = lead_inverse(field, left)?;
@@ -189,7 +189,7 @@ pub fn excluding_plainly<F: Field>(
     requires line { IsLine (F.meaning field.now) left.now }
     requires cleared { IsCleared (F.meaning field.now) (lines_of pivots.now) left.now }
     requires given { lead_of left.now < 4294967296 }
-    ensures excludes { IfOk result (λ v. Excludes (F.meaning field.now) 4294967296 (lines_of pivots.now) left.now v.items) }
+    ensures excludes { IfOk result (λ v. Excludes (F.meaning field.now) (lines_of pivots.now) left.now v.items) }
     ensures cause { OnFault result (let r = F.meaning field.now in DivisionIsHigh r.scalars 4294967296 (functions_of r (lines_of pivots.now)) (entry r left.now)) }
 {
     let column = lead(left);

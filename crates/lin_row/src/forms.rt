@@ -7,6 +7,8 @@ ghost use Rattle.lin_row.specs.Lines.{AllBelow, EachOf, given_part};
 ghost use Rattle.lin_row.specs.Rows.{AreRows, rows_of};
 ghost use Rattle.lin_row.specs.System.{IsSystem, AreEchelon, AreReduced, AllVanish, IsAbsent, lines_of};
 ghost use Rattle.lin_row.specs.Forms.{IsReducedForm, IsKernelBasis, AreKernelParts};
+ghost use Rattle.lin_row.specs.Plain.{with_units};
+ghost use Rattle.lin_row.specs.Stages.{IsEnd};
 ghost use Rattle.lin_row.specs.Systems.{SystemIsHigh};
 
 use crate::echelon::{place, remainder};
@@ -45,7 +47,7 @@ fn cleared_upwards<R: Ring>(
 }
 
 /// The reduced pivots of the rows.
-fn reduced_by<F: Field>(
+pub fn reduced_by<F: Field>(
     alloc: Global,
     field: &F,
     rows: &[Row<F::Elem>],
@@ -55,6 +57,8 @@ fn reduced_by<F: Field>(
     requires rows { AreRows (F.meaning field.now) rows.now }
     ensures system { IfOk result (λ v. IsSystem (F.meaning field.now) 4294967296 (rows_of rows.now) (rows_of rows.now) (lines_of v.items)) }
     ensures reduced { IfOk result (λ v. AreReduced (F.meaning field.now) (lines_of v.items)) }
+    ensures few { OnOk result (length rows.now ≤ 4294967296) }
+    ensures end { IfOk result (λ v. let r = F.meaning field.now in way ≡ Way.Plain → IsEnd r 4294967296 (with_units r 4294967296 0 (rows_of rows.now)) (lines_of v.items)) }
     ensures cause { way ≡ Way.Plain → OnFault result (SystemIsHigh (F.meaning field.now) rows.now) }
 {
     if rows.len() as u64 > UNITS {
@@ -68,7 +72,7 @@ fn reduced_by<F: Field>(
 }
 
 /// The entries before the unit columns.
-fn given_entries<E: Copy>(alloc: Global, line: &[(u64, E)]) -> Result<Vec<(u32, E)>, Fault>
+pub fn given_entries<E: Copy>(alloc: Global, line: &[(u64, E)]) -> Result<Vec<(u32, E)>, Fault>
     ensures items { IfOk result (λ v. v.items ≡ given_part 4294967296 line.now) }
     ensures cause { OnFault result ⊥ }
 {
@@ -83,7 +87,7 @@ fn given_entries<E: Copy>(alloc: Global, line: &[(u64, E)]) -> Result<Vec<(u32, 
 }
 
 /// The pivots' rows without their unit columns.
-fn given_rows<E: Copy>(alloc: Global, pivots: &[(u64, Line<E>)]) -> Result<Vec<Row<E>>, Fault>
+pub fn given_rows<E: Copy>(alloc: Global, pivots: &[(u64, Line<E>)]) -> Result<Vec<Row<E>>, Fault>
     ensures rows { IfOk result (λ v. rows_of v.items ≡ map (λ p. given_part 4294967296 p.1) (lines_of pivots.now)) }
     ensures cause { OnFault result ⊥ }
 {

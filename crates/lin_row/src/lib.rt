@@ -7,10 +7,12 @@ mod forms;
 pub mod laws;
 mod line;
 mod plain;
+mod reduction;
 mod row;
 mod stage;
 mod systems;
 
 pub use forms::{kernel, reduce};
-pub use row::{Row, Solution};
+pub use reduction::reduce_all;
+pub use row::{Reduction, Remainder, Row, Solution};
 pub use systems::{solve, solve_all};

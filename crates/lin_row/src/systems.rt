@@ -126,7 +126,7 @@ fn excluding_by<F: Field>(
     requires line { IsLine (F.meaning field.now) left.now }
     requires cleared { IsCleared (F.meaning field.now) (lines_of pivots.now) left.now }
     requires given { lead_of left.now < 4294967296 }
-    ensures excludes { IfOk result (λ v. Excludes (F.meaning field.now) 4294967296 (lines_of pivots.now) left.now v.items) }
+    ensures excludes { IfOk result (λ v. Excludes (F.meaning field.now) (lines_of pivots.now) left.now v.items) }
     ensures cause { way ≡ Way.Plain → OnFault result (let r = F.meaning field.now in DivisionIsHigh r.scalars 4294967296 (functions_of r (lines_of pivots.now)) (entry r left.now)) }
 {
     match way {

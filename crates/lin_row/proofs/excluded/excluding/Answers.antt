@@ -1,4 +1,4 @@
-use Rattle.std.proofs.Common.{◌∙◌, ◌<◌, ap, sym, subst, arith, [], ◌∷◌, ◌++◌}
+use Rattle.std.proofs.Common.{◌∙◌, ap, arith, [], ◌∷◌, ◌++◌}
 use Rattle.lin_row.specs.Lines.{dot, entry, lead_of}
 use Rattle.lin_row.specs.System.{lines_of}
 use Rattle.lin_row.proofs.SystemLaws
@@ -28,6 +28,6 @@ returns g c =
     let x = c.in_ok-inverse.inverse in
     let column = c.lead-column.result in
     let items = c.in_ok-push.ensures.items ∙ ap (λ ys. ys ++ ((column, x) ∷ [])) c.new-start.ensures.items in
-    ExcludedLaws.excludes m laws (lines_of c.args.pivots.now) 4294967296 c.args.left.now c.in_ok-values.values.items column (m.value x) (subst (λ k. k < 4294967296) (sym c.lead-column.ensures) c.requires.given)
-    c.requires.cleared c.requires.below (ap (λ k. m.scalars.ops.mul (entry m c.args.left.now k) (m.value x)) c.lead-column.ensures ∙ c.in_ok-inverse.ensures.unit) c.in_ok-values.ensures.line c.in_ok-values.ensures.vanish
+    ExcludedLaws.excludes m laws (lines_of c.args.pivots.now) c.args.left.now c.in_ok-values.values.items column (m.value x) c.lead-column.ensures
+    c.requires.cleared (ap (λ k. m.scalars.ops.mul (entry m c.args.left.now k) (m.value x)) c.lead-column.ensures ∙ c.in_ok-inverse.ensures.unit) c.in_ok-values.ensures.line c.in_ok-values.ensures.vanish
     (λ w zeros. c.in_ok-values.ensures.same w zeros ∙ ap (λ ys. dot m ys w) items ∙ ExcludedLaws.dot-one m laws column x w)

@@ -1,4 +1,4 @@
-use Rattle.std.proofs.Common.{◌∙◌, ◌<◌, ℕ, inl, inr, sym, ap, subst, arith, take, drop, [], ◌∷◌, ◌++◌}
+use Rattle.std.proofs.Common.{◌∙◌, ℕ, inl, inr, sym, ap, subst, arith, take, drop, [], ◌∷◌, ◌++◌}
 use Rattle.ring_law.proofs.Exits.{fault_handed_on}
 use Rattle.lin_row.specs.Lines.{lead_of, entry}
 use Rattle.lin_row.specs.System.{AreEchelon, AreReduced, AllVanish, ZeroAtPivots, IsAbsent, lines_of}
@@ -48,7 +48,7 @@ returns-clause-excludes g c =
     let forms = ExcludedLaws.front_vanish m laws.ring (lines_of (take n ps)) (lines_of (drop n ps)) column (subst (AreEchelon m) split c.requires.pivots) (subst (AreReduced m) split c.requires.reduced) c.place-count.ensures.before c.place-count.ensures.next (subst (λ qs. IsAbsent column qs) split free) v f value in
     let same = ExcludedLaws.front_same m laws.ring (lines_of (take n ps)) (lines_of (drop n ps)) column (subst (AreEchelon m) split c.requires.pivots) (subst (AreReduced m) split c.requires.reduced) c.place-count.ensures.before c.place-count.ensures.next (subst (λ qs. IsAbsent column qs) split free) v f value in
     rw c.in_ok-push.ensures.items
-    (ExcludedLaws.excludes m laws.ring (lines_of ps) 4294967296 c.args.left.now v column f (subst (λ k. k < 4294967296) (sym c.lead-column.ensures) c.requires.given) c.requires.cleared c.requires.below unit
+    (ExcludedLaws.excludes m laws.ring (lines_of ps) c.args.left.now v column f c.lead-column.ensures c.requires.cleared unit
     (record {
       rising = BuildLaws.rising_push divided column (column, x) (omega arith) ((rw c.deref.ensures.value at c.in_ok-divided.ensures.below) column below) c.in_ok-divided.ensures.line.rising;
       units = LineLaws.units_append m laws.ring divided _ c.in_ok-divided.ensures.line.units ((c.in_ok-inverse.ensures.elem, ExcludedLaws.inverse_unit m laws.ring laws.nontrivial (entry m c.args.left.now (lead_of c.args.left.now)) f c.in_ok-inverse.ensures.unit), tt);

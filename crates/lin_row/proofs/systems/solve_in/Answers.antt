@@ -9,6 +9,7 @@ use Rattle.lin_row.proofs.SystemLaws
 use Rattle.lin_row.proofs.BuildLaws
 use Rattle.lin_row.proofs.PlainLaws
 use Rattle.lin_row.proofs.ExcludedLaws
+use Rattle.lin_row.proofs.BoundLaws
 use Rattle.lin_row.proofs.systems.solve_in.Goals as goal
 
 pub remainder-requires-clause-pivots : goal.remainder-requires-clause-pivots
@@ -65,20 +66,31 @@ pub narrow-requires : goal.narrow-requires
 narrow-requires g c =
     let m = g.F.Ring.meaning c.args.field.now in
     let laws = (g.met.F.Ring.laws c.args.field.now c.requires.ring).numbers.ring in
-    let e = c.in_ok-values.ensures.excludes in
-    rw c.deref-then-column-lt-UNITS-3.ensures.value (ExcludedLaws.below_high m laws c.in_ok-values.values.items 4294967296 e.line e.high)
+    let e = rw (c.deref-then-column-lt-UNITS.ensures.value, c.deref-then-column-lt-UNITS-2.ensures.value) at c.in_ok-values.ensures.excludes in
+    let lead : c.lead-column.result ≡ lead_of c.in_ok-left.left.items = c.lead-column.ensures ∙ ap lead_of c.deref-2.ensures.value in
+    let given = subst (λ k. k < 4294967296) lead c.if-column-lt-UNITS.true in
+    rw c.deref-then-column-lt-UNITS-3.ensures.value (ExcludedLaws.below_high m laws c.in_ok-values.values.items 4294967296 e.line (e.beyond 4294967296 c.requires.system.system.below given))
 
 pub returns-then-column-lt-UNITS-clause-solution : goal.returns-then-column-lt-UNITS-clause-solution
 returns-then-column-lt-UNITS-clause-solution g c =
     let m = g.F.Ring.meaning c.args.field.now in
+    let laws = (g.met.F.Ring.laws c.args.field.now c.requires.ring).numbers in
     let v = c.in_ok-values.values.items in
+    let left = c.in_ok-left.left.items in
+    let lead : c.lead-column.result ≡ lead_of left = c.lead-column.ensures ∙ ap lead_of c.deref-2.ensures.value in
+    let given = subst (λ k. k < 4294967296) lead c.if-column-lt-UNITS.true in
+    let system = c.requires.system.system in
     let e = rw (c.deref-then-column-lt-UNITS.ensures.value, c.deref-then-column-lt-UNITS-2.ensures.value) at c.in_ok-values.ensures.excludes in
     let same = rw (c.deref.ensures.value, c.in_ok-line.ensures.items) at c.in_ok-left.ensures.same in
     rw (c.in_ok-narrowed.ensures.items, c.deref-then-column-lt-UNITS-3.ensures.value)
     (record {
       line = e.line;
-      rows = c.requires.system.system.spans (entry m v) e.high e.vanish;
+      rows = system.spans (entry m v) (e.beyond 4294967296 system.below given) e.vanish;
       target = sym (same (entry m v) e.vanish) ∙ e.one;
+      below = λ a rows target.
+          ExcludedLaws.below_high m laws.ring v a e.line
+          (e.beyond a (BoundLaws.pivots_below m laws.ring 4294967296 (rows_of c.args.rows.now) (lines_of c.args.system.now.pivots.items) system a rows laws.nontrivial)
+          (BoundLaws.lead_below m laws.ring 4294967296 (rows_of c.args.rows.now) (lines_of c.args.system.now.pivots.items) system a rows left c.args.target.now.entries c.in_ok-left.ensures.line given (omega arith) target same));
     })
 
 pub returns-clause-solution : goal.returns-clause-solution
