@@ -50,17 +50,17 @@ pub algebra_line : (w : Word) (a b : Algebra) (x y : List ℕ) → is_algebra a 
 algebra_line w a b x y va vb e = algebra_one a b x y va vb (word_rest w (algebra_text a) (algebra_text b) x y e)
 
 -- the parts, and the line `inverse`
-part_lines : (ms ns : List Name) (fs gs : List (JetTerms Element)) (x y : List ℕ) → AreParts ms fs → AreParts ns gs
+pub part_lines : (ms ns : List Name) (fs gs : List (JetTerms Element)) (x y : List ℕ) → AreParts ms fs → AreParts ns gs
     → parts_text ms fs ++ (line (word_text words.Inverse) ++ x) ≡ parts_text ns gs ++ (line (word_text words.Inverse) ++ y) → (ms ≡ ns) × (map terms_of fs ≡ map terms_of gs) × (x ≡ y)
 unfolding line word_text
 part_lines ms ns fs gs x y of og e =
     let h = parts_one ms ns fs gs (118 ∷ 101 ∷ 114 ∷ 115 ∷ 101 ∷ 10 ∷ x) (118 ∷ 101 ∷ 114 ∷ 115 ∷ 101 ∷ 10 ∷ y) of og e in
     (h.0, h.1, same_front (118 ∷ 101 ∷ 114 ∷ 115 ∷ 101 ∷ 10 ∷ []) x y h.2)
 
-jet_is : (f g : JetTerms Element) → f.n ≡ g.n → f.order ≡ g.order → f.terms ≡ g.terms → f ≡ g
+pub jet_is : (f g : JetTerms Element) → f.n ≡ g.n → f.order ≡ g.order → f.terms ≡ g.terms → f ≡ g
 jet_is f g a b c = λ i. record { n = a i; order = b i; terms = c i }
 
-jets_same : (n k : ℕ) (fs gs : List (JetTerms Element)) → AllByRecursion (IsReadableJet n k) fs → AllByRecursion (IsReadableJet n k) gs → map terms_of fs ≡ map terms_of gs → fs ≡ gs
+pub jets_same : (n k : ℕ) (fs gs : List (JetTerms Element)) → AllByRecursion (IsReadableJet n k) fs → AllByRecursion (IsReadableJet n k) gs → map terms_of fs ≡ map terms_of gs → fs ≡ gs
 jets_same n k [] [] of og e = refl
 jets_same n k [] (g ∷ gs) of og e = absurd cc
 jets_same n k (f ∷ fs) [] of og e = absurd cc
@@ -93,7 +93,7 @@ matrix_of c w = all_from (is_element c.algebra) IsSmallElement (λ e. element_by
 square_size : (c : Carried) → IsWellFormedCarried c → length c.change.inverse ≡ c.change.n * c.change.n
 square_size c w = w.matrix_size ∙ sym (ap (λ (k : ℕ). k * k) w.change_variables)
 
-jet_line : (w : Word) (n k : ℕ) (f g : JetTerms Element) (x y : List ℕ) → IsReadableJet n k f → IsReadableJet n k g → word_line w (jet_text f) ++ x ≡ word_line w (jet_text g) ++ y → (f ≡ g) × (x ≡ y)
+pub jet_line : (w : Word) (n k : ℕ) (f g : JetTerms Element) (x y : List ℕ) → IsReadableJet n k f → IsReadableJet n k g → word_line w (jet_text f) ++ x ≡ word_line w (jet_text g) ++ y → (f ≡ g) × (x ≡ y)
 jet_line w n k f g x y of og e =
     let h = (jet_read n k).one f g (10 ∷ x) (10 ∷ y) of og (omega arith) (omega arith) (word_rest w (jet_text f) (jet_text g) x y e) in
     (h.0, (head 10 10 x y h.1).1)

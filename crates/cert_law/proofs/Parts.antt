@@ -95,7 +95,7 @@ name_one m n x y vm vn sx sy e =
     (name_is m n (sym (take-append-drop m.len m.bytes) ∙ ap (λ (z : List ℕ). z ++ drop m.len m.bytes) h.0 ∙ ap (λ (z : List ℕ). tn ++ z) zeros ∙ take-append-drop n.len n.bytes) len, h.1)
 
 -- a name and a blank do not begin as `inverse` does
-no_word : (name z x : List ℕ) → is_name name ≡ true → name ++ (32 ∷ z) ≡ 105 ∷ 110 ∷ x → ⊥
+pub no_word : (name z x : List ℕ) → is_name name ≡ true → name ++ (32 ∷ z) ≡ 105 ∷ 110 ∷ x → ⊥
 no_word [] z x e q = cc
 no_word (c ∷ []) z x e q = let h = (head 32 110 z x (head c 105 _ _ q).1).0 in omega (arith, h)
 no_word (c ∷ d ∷ ds) z x e q =
@@ -110,14 +110,14 @@ no_word (c ∷ d ∷ ds) z x e q =
 abbrev pub terms_of : JetTerms Element → List Term
 terms_of f = f.terms
 
-part_apart : (n : Name) (f : JetTerms Element) (z x : List ℕ) → is_valid_name n ≡ true → 105 ∷ 110 ∷ x ≡ part_text n f ++ z → ⊥
+pub part_apart : (n : Name) (f : JetTerms Element) (z x : List ℕ) → is_valid_name n ≡ true → 105 ∷ 110 ∷ x ≡ part_text n f ++ z → ⊥
 unfolding part_text line
 part_apart n f z x v e =
     let p = name_by n v in
     let all : part_text n f ++ z ≡ name_text n ++ (32 ∷ (61 ∷ (32 ∷ (jet_text f ++ (10 ∷ z))))) = simp append_assoc in
     no_word (take n.len n.bytes) _ x p.spelled (ap (λ (b : List ℕ). b ++ (32 ∷ (61 ∷ (32 ∷ (jet_text f ++ (10 ∷ z)))))) (sym p.text) ∙ sym all ∙ sym e)
 
-part_one : (m n : Name) (f g : JetTerms Element) (x y : List ℕ) → is_valid_name m ≡ true → is_valid_name n ≡ true → IsPolynomial f.terms → IsPolynomial g.terms
+pub part_one : (m n : Name) (f g : JetTerms Element) (x y : List ℕ) → is_valid_name m ≡ true → is_valid_name n ≡ true → IsPolynomial f.terms → IsPolynomial g.terms
     → part_text m f ++ x ≡ part_text n g ++ y → (m ≡ n) × (f.terms ≡ g.terms) × (x ≡ y)
 unfolding part_text line polynomial_in
 part_one m n f g x y vm vn of og e =

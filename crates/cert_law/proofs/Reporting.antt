@@ -38,22 +38,22 @@ use Rattle.cert_law.proofs.Carrying.{word_rest, number_line, block_one, readable
 
 -- ---- what well-formedness gives for the rows
 
-residual_monomial : (c : Carried) (m : Exp) → is_residual_monomial c m ≡ true → IsMonomial m
+pub residual_monomial : (c : Carried) (m : Exp) → is_residual_monomial c m ≡ true → IsMonomial m
 residual_monomial c m e =
     let h = both (is_monomial_in c.corank m) (leb (sum m.e) 17) e in
     let low = leb-true (sum m.e) 17 h.1 in
     monomial_by c.corank m h.0 (omega (arith, low))
 
-multipliers_by : (c : Carried) → c.order ≤ 16 → (fs : List (JetTerms Element)) → AreMultipliers c fs → AreJets c.corank c.corank c.order fs
+pub multipliers_by : (c : Carried) → c.order ≤ 16 → (fs : List (JetTerms Element)) → AreMultipliers c fs → AreJets c.corank c.corank c.order fs
 multipliers_by c le fs is = record { long = is.count; each = all_to (IsJetOf c.corank c.order c.algebra) (IsReadableJet c.corank c.order) (readable c.corank c.order c.algebra le) fs is.each }
 
-row_by : (c : Carried) → c.order ≤ 16 → (row : MatherRow Element) → IsWellFormedRow c row → IsRow c.corank c.order row
+pub row_by : (c : Carried) → c.order ≤ 16 → (row : MatherRow Element) → IsWellFormedRow c row → IsRow c.corank c.order row
 row_by c le row is = record { monomial = residual_monomial c row.monomial is.monomial; multipliers = multipliers_by c le row.multipliers is.multipliers }
 
-rows_by : (c : Carried) → c.order ≤ 16 → (rows : List (MatherRow Element)) → AreRows c rows → AllByRecursion (IsRow c.corank c.order) rows
+pub rows_by : (c : Carried) → c.order ≤ 16 → (rows : List (MatherRow Element)) → AreRows c rows → AllByRecursion (IsRow c.corank c.order) rows
 rows_by c le rows is = all_to (IsWellFormedRow c) (IsRow c.corank c.order) (row_by c le) rows is.each
 
-table_row_by : (c : Carried) (size : ℕ) → c.order ≤ 16 → (row : TableRow Element) → IsWellFormedTableRow c size row → IsTableLine size c.corank c.order row
+pub table_row_by : (c : Carried) (size : ℕ) → c.order ≤ 16 → (row : TableRow Element) → IsWellFormedTableRow c size row → IsTableLine size c.corank c.order row
 table_row_by c size le row is = record {
   monomial = residual_monomial c row.monomial is.monomial;
   long = is.count;
@@ -61,23 +61,23 @@ table_row_by c size le row is = record {
   multipliers = multipliers_by c le row.multipliers is.multipliers;
 }
 
-value_by : (c : Carried) (v : Term) → (is_residual_monomial c v.0 && (is_element c.algebra v.1 && not (is_zero_element v.1))) ≡ true → IsValue v
+pub value_by : (c : Carried) (v : Term) → (is_residual_monomial c v.0 && (is_element c.algebra v.1 && not (is_zero_element v.1))) ≡ true → IsValue v
 value_by c v e =
     let h = both (is_residual_monomial c v.0) (is_element c.algebra v.1 && not (is_zero_element v.1)) e in
     record { monomial = residual_monomial c v.0 h.0; value = element_by c.algebra v.1 (both (is_element c.algebra v.1) (not (is_zero_element v.1)) h.1).0 }
 
-unit_by : (a : Algebra) (u : UnitPair) → (is_element a u.0 && is_element a u.1) ≡ true → IsUnitLine u
+pub unit_by : (a : Algebra) (u : UnitPair) → (is_element a u.0 && is_element a u.1) ≡ true → IsUnitLine u
 unit_by a u e =
     let h = both (is_element a u.0) (is_element a u.1) e in
     record { value = element_by a u.0 h.0; inverse = element_by a u.1 h.1 }
 
-modulus_by : (a : Algebra) (m : ModulusLine) → is_valid_modulus a m ≡ true → IsModulusLine m
+pub modulus_by : (a : Algebra) (m : ModulusLine) → is_valid_modulus a m ≡ true → IsModulusLine m
 modulus_by a moduli.None e = tt
 modulus_by a moduli.Form e = tt
 modulus_by a (moduli.Value f) e = element_by a f e
 modulus_by a (moduli.J q) e = component_by q e
 
-few_by : (f : Family) → has_small_numbers f ≡ true → HasFew f
+pub few_by : (f : Family) → has_small_numbers f ≡ true → HasFew f
 few_by (families.A m) e = (ltb-true m 256 e, refl, refl)
 few_by (families.D m) e = (ltb-true m 256 e, refl, refl)
 few_by (families.T p q r) e =
@@ -107,7 +107,7 @@ few_by families.U12 e = (refl, refl, refl)
 
 -- ---- rows with their count
 
-mather_one : (c : Carried) → c.order ≤ 16 → (us vs : List (MatherRow Element)) (x y : List ℕ) → AreRows c us → AreRows c vs → mather_lines us ++ x ≡ mather_lines vs ++ y → (us ≡ vs) × (x ≡ y)
+pub mather_one : (c : Carried) → c.order ≤ 16 → (us vs : List (MatherRow Element)) (x y : List ℕ) → AreRows c us → AreRows c vs → mather_lines us ++ x ≡ mather_lines vs ++ y → (us ≡ vs) × (x ≡ y)
 unfolding mather_lines
 mather_one c le us vs x y ou ov e =
     block_one words.Mather (IsRow c.corank c.order) mather_text (mather_line c.corank c.order) us vs x y (omega (arith, ou.few)) (omega (arith, ov.few)) (rows_by c le us ou) (rows_by c le vs ov)
@@ -115,7 +115,7 @@ mather_one c le us vs x y ou ov e =
 
 -- ---- named reports
 
-basis_rest : (us vs : List Exp) (x y : List ℕ) → AllByRecursion IsMonomial us → AllByRecursion IsMonomial vs
+pub basis_rest : (us vs : List Exp) (x y : List ℕ) → AllByRecursion IsMonomial us → AllByRecursion IsMonomial vs
     → line (word_text words.Basis ++ flat_map (λ m. 32 ∷ monomial_text m) us) ++ x ≡ line (word_text words.Basis ++ flat_map (λ m. 32 ∷ monomial_text m) vs) ++ y → (us ≡ vs) × (x ≡ y)
 unfolding line
 basis_rest us vs x y ou ov e =
@@ -138,11 +138,11 @@ quotient_is p q a b = λ i. record { basis = a i; table = b i }
 named_is : (r s : named_type.Named) → r.family ≡ s.family → r.carried ≡ s.carried → r.units ≡ s.units → r.modulus ≡ s.modulus → r.milnor ≡ s.milnor → r.mather ≡ s.mather → r.quotient ≡ s.quotient → r ≡ s
 named_is r s a b c d e f g = λ i. record { family = a i; carried = b i; units = c i; modulus = d i; milnor = e i; mather = f i; quotient = g i }
 
-family_line : (f g : Family) (x y : List ℕ) → (is_family f && has_small_numbers f) ≡ true → (is_family g && has_small_numbers g) ≡ true → word_line words.Named (family_text f) ++ x ≡ word_line words.Named (family_text g) ++ y → (f ≡ g) × (x ≡ y)
+pub family_line : (f g : Family) (x y : List ℕ) → (is_family f && has_small_numbers f) ≡ true → (is_family g && has_small_numbers g) ≡ true → word_line words.Named (family_text f) ++ x ≡ word_line words.Named (family_text g) ++ y → (f ≡ g) × (x ≡ y)
 family_line f g x y vf vg e =
     family_one f g x y (few_by f (both (is_family f) (has_small_numbers f) vf).1) (few_by g (both (is_family g) (has_small_numbers g) vg).1) (word_rest words.Named (family_text f) (family_text g) x y e)
 
-modulus_line : (a b : Algebra) (p q : ModulusLine) (x y : List ℕ) → is_valid_modulus a p ≡ true → is_valid_modulus b q ≡ true → word_line words.Modulus (modulus_text p) ++ x ≡ word_line words.Modulus (modulus_text q) ++ y → (p ≡ q) × (x ≡ y)
+pub modulus_line : (a b : Algebra) (p q : ModulusLine) (x y : List ℕ) → is_valid_modulus a p ≡ true → is_valid_modulus b q ≡ true → word_line words.Modulus (modulus_text p) ++ x ≡ word_line words.Modulus (modulus_text q) ++ y → (p ≡ q) × (x ≡ y)
 modulus_line a b p q x y vp vq e = modulus_one p q x y (modulus_by a p vp) (modulus_by b q vq) (word_rest words.Modulus (modulus_text p) (modulus_text q) x y e)
 
 units_by : (r : named_type.Named) → IsWellFormedNamed r → AllByRecursion IsUnitLine r.units
@@ -184,7 +184,7 @@ limit_is r s a b c = λ i. record { carried = a i; at = b i; functional = c i }
 newline_ends : NoDigit 10
 newline_ends = λ d. omega (arith, d.0)
 
-functional_head : (m n : Exp) (k l : ℕ) (x y : List ℕ) → IsMonomial m → IsMonomial n → k < 10 ^ 64 → l < 10 ^ 64
+pub functional_head : (m n : Exp) (k l : ℕ) (x y : List ℕ) → IsMonomial m → IsMonomial n → k < 10 ^ 64 → l < 10 ^ 64
     → word_line words.Functional (monomial_text m ++ 32 ∷ decimal k) ++ x ≡ word_line words.Functional (monomial_text n ++ 32 ∷ decimal l) ++ y → (m ≡ n) × (k ≡ l) × (x ≡ y)
 functional_head m n k l x y om on lk ll e =
     let rest = word_rest words.Functional (monomial_text m ++ 32 ∷ decimal k) (monomial_text n ++ 32 ∷ decimal l) x y e in

@@ -70,7 +70,7 @@ values_start : (us : List Element) (x : List ℕ) → Starts EndsSum x → Start
 values_start [] x s = s
 values_start (u ∷ us) x s = omega arith
 
-spaced_one : (us vs : List Element) (x y : List ℕ) → length us ≡ length vs → AllByRecursion IsSmallElement us → AllByRecursion IsSmallElement vs → Starts EndsSum x → Starts EndsSum y → spaced us ++ x ≡ spaced vs ++ y → (us ≡ vs) × (x ≡ y)
+pub spaced_one : (us vs : List Element) (x y : List ℕ) → length us ≡ length vs → AllByRecursion IsSmallElement us → AllByRecursion IsSmallElement vs → Starts EndsSum x → Starts EndsSum y → spaced us ++ x ≡ spaced vs ++ y → (us ≡ vs) × (x ≡ y)
 unfolding spaced
 spaced_one [] [] x y len ou ov sx sy e = (refl, e)
 spaced_one [] (v ∷ vs) x y len ou ov sx sy e = absurd (omega (arith, len))

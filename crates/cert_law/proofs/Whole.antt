@@ -60,7 +60,7 @@ blank_ends = λ d. omega (arith, d.0)
 syntax_is : (m n : ℕ) (v w : What) → m ≡ n → v ≡ w → answers.Syntax m v ≡ answers.Syntax n w
 syntax_is m n v w a b = λ i. answers.Syntax (a i) (b i)
 
-syntax_one : (m n : ℕ) (v w : What) (x y : List ℕ) → m < 2 ^ 32 → n < 2 ^ 32 → word_line words.Syntax (decimal m ++ 32 ∷ what_text v) ++ x ≡ word_line words.Syntax (decimal n ++ 32 ∷ what_text w) ++ y → (m ≡ n) × (v ≡ w) × (x ≡ y)
+pub syntax_one : (m n : ℕ) (v w : What) (x y : List ℕ) → m < 2 ^ 32 → n < 2 ^ 32 → word_line words.Syntax (decimal m ++ 32 ∷ what_text v) ++ x ≡ word_line words.Syntax (decimal n ++ 32 ∷ what_text w) ++ y → (m ≡ n) × (v ≡ w) × (x ≡ y)
 syntax_one m n v w x y lm ln e =
     let rest = word_rest words.Syntax (decimal m ++ 32 ∷ what_text v) (decimal n ++ 32 ∷ what_text w) x y e in
     let a = number_one m n (32 ∷ (what_text v ++ (10 ∷ x))) (32 ∷ (what_text w ++ (10 ∷ y))) (omega (arith, lm)) (omega (arith, ln)) blank_ends blank_ends
@@ -112,7 +112,7 @@ not_true : (t : Bool) → not t ≡ true → t ≡ true → ⊥
 not_true true h e = cc
 not_true false h e = cc
 
-in_line : (b : ℕ) → (ltb b 256 && not (eqb b 10)) ≡ true → InLine b
+pub in_line : (b : ℕ) → (ltb b 256 && not (eqb b 10)) ≡ true → InLine b
 in_line b h e = not_true (eqb b 10) (both (ltb b 256) (not (eqb b 10)) h).1 (subst (λ (k : ℕ). eqb k 10 ≡ true) (sym e) refl)
 
 line_is : (l m : List ℕ) (a b : Answer) → l ≡ m → a ≡ b → reports.Line l a ≡ reports.Line m b
