@@ -2,3 +2,4 @@ pub mod Places
 pub mod Options
 pub mod Numerals
 pub mod Fractions
+pub mod NameTexts

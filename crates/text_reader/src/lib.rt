@@ -2,9 +2,11 @@
 #![tactic(auto)]
 
 mod fraction;
+mod name;
 mod number;
 mod splitting;
 
 pub use fraction::read_fraction;
+pub use name::read_name;
 pub use number::{read_u8, read_u32, read_u64};
 pub use splitting::{split_at_byte, strip_front};
