@@ -3,3 +3,5 @@ pub mod Options
 pub mod Numerals
 pub mod Fractions
 pub mod NameTexts
+pub mod Visible
+pub mod FamilyNames

@@ -1,3 +1,4 @@
 pub mod Reading
 pub mod Digits
 pub mod Names
+pub mod Numbers

@@ -1,12 +1,16 @@
 //! Readers of the small texts inside a report's lines.
 #![tactic(auto)]
 
+mod family;
 mod fraction;
 mod name;
 mod number;
 mod splitting;
+mod word;
 
+pub use family::read_family;
 pub use fraction::read_fraction;
 pub use name::read_name;
 pub use number::{read_u8, read_u32, read_u64};
 pub use splitting::{split_at_byte, strip_front};
+pub use word::{read_pattern, read_phase, read_what};
