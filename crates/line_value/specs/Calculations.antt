@@ -29,7 +29,7 @@ state_at value stack f (At.Term t) = calculation.term stack f (value t)
 
 -- the state of the values
 abbrev pub state_of : {E V : Type 0} → (E → V) → Calculation E → calculation.State V
-state_of value c = state_at value (stack_of value c.open.items) (frame_of value c.frame) c.at
+state_of value c = state_at value (stack_of value c.stack.items) (frame_of value c.frame) c.at
 
 -- the elements of a frame are valid
 abbrev pub IsFrame : {E : Type 0} → (E → Type 0) → Frame E → Type 0
@@ -45,7 +45,7 @@ IsAt is_elem (At.Term t) = is_elem t
 
 -- all elements of a calculation are valid
 pub record IsCalculation {E : Type 0} (is_elem : E → Type 0) (c : Calculation E) : Type 0 where
-  pub open_frames : All (IsFrame is_elem) c.open.items
+  pub frames : All (IsFrame is_elem) c.stack.items
   pub last_frame : IsFrame is_elem c.frame
   pub last_read : IsAt is_elem c.at
 

@@ -18,10 +18,10 @@ pub enum At<E: Drop> {
     Term(E),
 }
 
-/// The open groups, what stands before the term here, and what was read last.
+/// The stack groups, what stands before the term here, and what was read last.
 #[derive(Drop)]
 pub struct Calculation<E: Drop> {
-    pub open: Vec<Frame<E>>,
+    pub stack: Vec<Frame<E>>,
     pub frame: Frame<E>,
     pub at: At<E>,
 }

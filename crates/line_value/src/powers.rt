@@ -23,8 +23,16 @@ pub fn power<C: Calculator>(
     if n == 0 {
         return Ok(calculator.number(alloc, 1)?);
     }
-    let half = power(alloc, calculator, base, n / 2)?;
-    let square = calculator.mul(alloc, &half, &half)?;
+    if n == 1 {
+        let one = calculator.number(alloc, 1)?;
+        return calculator.mul(alloc, &one, base);
+    }
+    let square = if n < 4 {
+        calculator.mul(alloc, base, base)?
+    } else {
+        let half = power(alloc, calculator, base, n / 2)?;
+        calculator.mul(alloc, &half, &half)?
+    };
     if n % 2 == 0 {
         Ok(square)
     } else {

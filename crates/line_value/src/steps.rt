@@ -80,17 +80,17 @@ fn total<C: Calculator>(
 fn on_term<C: Calculator>(
     alloc: Global,
     calculator: &C,
-    mut open: Vec<Frame<C::Elem>>,
+    mut stack: Vec<Frame<C::Elem>>,
     frame: Frame<C::Elem>,
     term: C::Elem,
     c: u8,
 ) -> Result<Option<Calculation<C::Elem>>, Fault>
-    requires open_frames { All (IsFrame (C.is_elem calculator.now)) open.items }
+    requires frames { All (IsFrame (C.is_elem calculator.now)) stack.items }
     requires last_frame { IsFrame (C.is_elem calculator.now) frame }
     requires term { C.is_elem calculator.now term }
     ensures elems { IfOk result (λ o. IfSome o (IsCalculation (C.is_elem calculator.now))) }
     ensures value { IfOk result (λ o. option_map (state_of (C.value calculator.now)) o
-        ≡ calculation.on_term (C.arithmetic calculator.now) (stack_of (C.value calculator.now) open.items) (frame_of (C.value calculator.now) frame) (C.value calculator.now term) c) }
+        ≡ calculation.on_term (C.arithmetic calculator.now) (stack_of (C.value calculator.now) stack.items) (frame_of (C.value calculator.now) frame) (C.value calculator.now term) c) }
     ensures cause { OnFault result (calculation.IsEndHigh (C.arithmetic calculator.now) (C.high calculator.now)
         (frame_of (C.value calculator.now) frame) (C.value calculator.now term) c) }
 {
@@ -102,7 +102,7 @@ fn on_term<C: Calculator>(
             product: Some(term),
         };
         let at = At::Wanted;
-        Ok(Some(Calculation { open, frame, at }))
+        Ok(Some(Calculation { stack, frame, at }))
     } else if c == b'/' {
         let Frame { sum, minus, .. } = frame;
         let frame = Frame {
@@ -111,14 +111,14 @@ fn on_term<C: Calculator>(
             product: None,
         };
         let at = At::Divisor(term);
-        Ok(Some(Calculation { open, frame, at }))
+        Ok(Some(Calculation { stack, frame, at }))
     } else if c == b')' {
         let value = total(alloc, calculator, &frame, term)?;
-        match open.pop() {
+        match stack.pop() {
             None => Ok(None),
             Some(frame) => {
                 let at = At::Seen(value);
-                Ok(Some(Calculation { open, frame, at }))
+                Ok(Some(Calculation { stack, frame, at }))
             }
         }
     } else if c == b'+' {
@@ -129,7 +129,7 @@ fn on_term<C: Calculator>(
             product: None,
         };
         let at = At::Wanted;
-        Ok(Some(Calculation { open, frame, at }))
+        Ok(Some(Calculation { stack, frame, at }))
     } else if c == b'-' {
         let sum = Some(total(alloc, calculator, &frame, term)?);
         let frame = Frame {
@@ -138,7 +138,7 @@ fn on_term<C: Calculator>(
             product: None,
         };
         let at = At::Wanted;
-        Ok(Some(Calculation { open, frame, at }))
+        Ok(Some(Calculation { stack, frame, at }))
     } else {
         Ok(None)
     }
@@ -147,25 +147,25 @@ fn on_term<C: Calculator>(
 // The calculation after a symbol that stands where an atom is wanted, or `None` where it may not.
 fn on_front<C: Calculator>(
     calculator: &C,
-    mut open: Vec<Frame<C::Elem>>,
+    mut stack: Vec<Frame<C::Elem>>,
     frame: Frame<C::Elem>,
     c: u8,
 ) -> Result<Option<Calculation<C::Elem>>, AllocError>
-    requires open_frames { All (IsFrame (C.is_elem calculator.now)) open.items }
+    requires frames { All (IsFrame (C.is_elem calculator.now)) stack.items }
     requires last_frame { IsFrame (C.is_elem calculator.now) frame }
     ensures elems { IfOk result (λ o. IfSome o (IsCalculation (C.is_elem calculator.now))) }
     ensures value { IfOk result (λ o. option_map (state_of (C.value calculator.now)) o
-        ≡ calculation.on_front (C.arithmetic calculator.now) (stack_of (C.value calculator.now) open.items) (frame_of (C.value calculator.now) frame) c) }
+        ≡ calculation.on_front (C.arithmetic calculator.now) (stack_of (C.value calculator.now) stack.items) (frame_of (C.value calculator.now) frame) c) }
 {
     let at = At::Wanted;
     if c == b'(' {
-        open.push(frame)?;
+        stack.push(frame)?;
         let frame = Frame {
             sum: None,
             minus: false,
             product: None,
         };
-        Ok(Some(Calculation { open, frame, at }))
+        Ok(Some(Calculation { stack, frame, at }))
     } else if c == b'+' || c == b'-' {
         let Frame { sum, product, .. } = frame;
         let frame = Frame {
@@ -173,7 +173,7 @@ fn on_front<C: Calculator>(
             minus: c == b'-',
             product,
         };
-        Ok(Some(Calculation { open, frame, at }))
+        Ok(Some(Calculation { stack, frame, at }))
     } else {
         Ok(None)
     }
@@ -193,27 +193,27 @@ fn on_step<C: Calculator>(
         ≡ calculation.on_step (C.arithmetic calculator.now) (state_of (C.value calculator.now) state) step) }
     ensures cause { OnFault result (calculation.IsStepHigh (C.arithmetic calculator.now) (C.high calculator.now) (state_of (C.value calculator.now) state) step) }
 {
-    let Calculation { open, frame, at } = state;
+    let Calculation { stack, frame, at } = state;
     match at {
         At::Wanted => match step {
             Step::Variable(i) => {
                 let at = At::Seen(calculator.variable(alloc, i)?);
-                Ok(Some(Calculation { open, frame, at }))
+                Ok(Some(Calculation { stack, frame, at }))
             }
             Step::Number(n) => {
                 let at = At::Seen(calculator.number(alloc, n)?);
-                Ok(Some(Calculation { open, frame, at }))
+                Ok(Some(Calculation { stack, frame, at }))
             }
-            Step::Symbol(c) => Ok(on_front(calculator, open, frame, c)?),
+            Step::Symbol(c) => Ok(on_front(calculator, stack, frame, c)?),
         },
         At::Seen(atom) => match step {
             Step::Symbol(c) => {
                 if c == b'^' {
                     let at = At::Exponent(atom);
-                    Ok(Some(Calculation { open, frame, at }))
+                    Ok(Some(Calculation { stack, frame, at }))
                 } else {
                     let term = times(alloc, calculator, &frame.product, atom)?;
-                    on_term(alloc, calculator, open, frame, term, c)
+                    on_term(alloc, calculator, stack, frame, term, c)
                 }
             }
             _ => Ok(None),
@@ -229,7 +229,7 @@ fn on_step<C: Calculator>(
                     product: None,
                 };
                 let at = At::Term(term);
-                Ok(Some(Calculation { open, frame, at }))
+                Ok(Some(Calculation { stack, frame, at }))
             }
             _ => Ok(None),
         },
@@ -239,12 +239,12 @@ fn on_step<C: Calculator>(
                     return Ok(None);
                 }
                 let at = At::Term(calculator.over(alloc, &term, n)?);
-                Ok(Some(Calculation { open, frame, at }))
+                Ok(Some(Calculation { stack, frame, at }))
             }
             _ => Ok(None),
         },
         At::Term(term) => match step {
-            Step::Symbol(c) => on_term(alloc, calculator, open, frame, term, c),
+            Step::Symbol(c) => on_term(alloc, calculator, stack, frame, term, c),
             _ => Ok(None),
         },
     }
@@ -285,7 +285,7 @@ pub fn evaluate<C: Calculator>(
     ensures cause { OnFault result (AreStepsHigh (C.arithmetic calculator.now) (C.high calculator.now) steps.now) }
 {
     let mut state = Calculation {
-        open: Vec::new(alloc),
+        stack: Vec::new(alloc),
         frame: Frame {
             sum: None,
             minus: false,

@@ -246,13 +246,11 @@ module _ (n i r left d first : ℕ) (e : List ℕ) (h : i < n) (f : Found r e i 
   left_next : left - first < count_below (n - i - 1) (d + 1)
   left_next = subst (λ k. left - k < count_below (n - i - 1) (d + 1)) (sym counted) (found_left (n - i - 1) d left found.next found.reached)
 
-  pub left_within : left - first < length (monomials_below (n - i - 1) 18)
-  left_within =
-      let small : d + 1 ≤ 18 = (let x = found.degree in omega arith) in
-      let c = count-le (n - i - 1) (d + 1) 18 small in
-      let l = left_next in
-      let all = length-monomials_below (n - i - 1) 18 in
-      omega arith
+  pub small_rest : d ≤ 17
+  small_rest = let x = found.degree in omega arith
+
+  pub left_within : left - first < length (monomials_below (n - i - 1) (d + 1))
+  left_within = let l = left_next in let all = length-monomials_below (n - i - 1) (d + 1) in omega arith
 
   pub rest_fits : (rest : ℕ) → length (monomials_below (n - i - 1) rest) ≤ left - first → rest ≤ d
   rest_fits rest low = found_rest (n - i - 1) d (left - first) rest left_next (let all = length-monomials_below (n - i - 1) rest in omega arith)

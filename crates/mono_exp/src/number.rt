@@ -66,16 +66,17 @@ pub fn rank(n: u8, a: Exp) -> u32
     number
 }
 
-/// The highest degree d up to 17 such that the first monomial of degree d in n variables has at
+/// The highest degree d up to `most` such that the first monomial of degree d in n variables has at
 /// most this number.
-fn degree_at(n: u8, number: u32) -> u8
+fn degree_at(n: u8, number: u32, most: u8) -> u8
     requires variables { n ≤ 8 }
-    requires within { number < length (monomials_below n 18) }
-    ensures small { result ≤ 17 }
+    requires small { most ≤ 17 }
+    requires within { number < length (monomials_below n (most + 1)) }
+    ensures small { result ≤ most }
     ensures reached { length (monomials_below n result) ≤ number }
     ensures next { number < length (monomials_below n (result + 1)) }
 {
-    let mut d = 17;
+    let mut d = most;
     while number < first(n, d) {
         d -= 1;
     }
@@ -93,10 +94,10 @@ pub fn unrank(n: u8, r: u32) -> Exp
 {
     let mut e = [0; 8];
     let mut left = r;
-    let mut d = degree_at(n, r);
+    let mut d = degree_at(n, r, 17);
     for i in 0..n {
         left -= first(n - i, d);
-        let rest = degree_at(n - i - 1, left);
+        let rest = degree_at(n - i - 1, left, d);
         e[usize::from(i)] = d - rest;
         d = rest;
     }

@@ -4,7 +4,7 @@ use Rattle.mono_exp.proofs.number.degree_at.Given as goal
 
 abbrev pub invariant-loop-d : goal.invariant-loop-d
 invariant-loop-d l = record {
-  small : l.d ≤ 17;
+  small : l.d ≤ l.fn.most;
   next : l.number < length (monomials_below l.n (l.d + 1));
 }
 

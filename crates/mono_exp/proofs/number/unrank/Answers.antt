@@ -1,5 +1,5 @@
 use Rattle.std.proofs.Common.{◌+◌, ◌-◌, set, sym, subst, arith}
-use Rattle.mono_exp.proofs.NumberLemmas.{Found, first_fits, left_within, rest_fits, found_next, found_first, found_last}
+use Rattle.mono_exp.proofs.NumberLemmas.{Found, first_fits, small_rest, left_within, rest_fits, found_next, found_first, found_last}
 use Rattle.mono_exp.proofs.number.unrank.Goals as goal
 
 pub loop-i-init : goal.loop-i-init
@@ -7,6 +7,9 @@ loop-i-init c = found_first c.args.r c.degree_at-d.result c.args.n c.requires.va
 
 pub overflow_sub-left : goal.overflow_sub-left
 overflow_sub-left c = first_fits c.args.n c.loop-i.i c.args.r c.loop-i.left c.loop-i.d c.first-left.result c.loop-i.e c.loop-i-test.true c.loop-i.invariant c.first-left.ensures.count
+
+pub degree_at-rest-requires-clause-small : goal.degree_at-rest-requires-clause-small
+degree_at-rest-requires-clause-small c = small_rest c.args.n c.loop-i.i c.args.r c.loop-i.left c.loop-i.d c.first-left.result c.loop-i.e c.loop-i-test.true c.loop-i.invariant c.first-left.ensures.count
 
 pub degree_at-rest-requires-clause-within : goal.degree_at-rest-requires-clause-within
 degree_at-rest-requires-clause-within c = left_within c.args.n c.loop-i.i c.args.r c.loop-i.left c.loop-i.d c.first-left.result c.loop-i.e c.loop-i-test.true c.loop-i.invariant c.first-left.ensures.count
