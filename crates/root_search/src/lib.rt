@@ -114,30 +114,4 @@ pub fn least_root(a: i128, b: i128, c: i128) -> Option<i128>
 }
 
 #[cfg(test)]
-mod tests {
-    use super::least_root;
-    use std::rt::HostRuntime;
-
-    // The cubics are products of linear factors, or have no whole root, by hand.
-    #[test]
-    fn least_roots_of_cubics(rt: HostRuntime) {
-        let far = 1_000_000_000_000;
-        let large = far * far * far;
-        let cases = [
-            (-6, 11, -6, Some(1)),
-            (0, 0, 1, Some(-1)),
-            (0, 0, -2, None),
-            (0, 0, 0, Some(0)),
-            (0, -7, 6, Some(-3)),
-            (1, -1, -1, Some(-1)),
-            (-3 * far, 3 * far * far, -large, Some(far)),
-            (large, 0, 0, Some(-large)),
-            (-large, 0, 0, Some(0)),
-            (large, large, 1, Some(-1)),
-            (0, 0, -large - 1, None),
-        ];
-        for (a, b, c, root) in cases {
-            assert_eq!(rt; least_root(a, b, c), root, "x^3 + {a}*x^2 + {b}*x + {c}");
-        }
-    }
-}
+mod tests;
