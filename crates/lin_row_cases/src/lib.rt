@@ -1,7 +1,7 @@
 //! Worked systems of rows, over any field and over the rational numbers.
 #![tactic(auto)]
 
-ghost use Rattle.std.specs.Prelude.{◌≢◌, ◌<◌, IfOk, OnOk};
+ghost use Rattle.std.specs.Prelude.{◌≢◌, ◌<◌, All, IfOk, OnOk};
 ghost use Rattle.lin_row.specs.Lines.{IsLine, AllBelow};
 ghost use Rattle.lin_row.specs.Rows.{AreRows};
 
@@ -85,24 +85,44 @@ pub fn reduced<F: Field>(alloc: Global, field: &F) -> Result<Vec<Row<F::Elem>>, 
     reduce(alloc, field, &rows)
 }
 
-/// Puts an entry 1 behind the others, unless its column is not behind them, and answers the first column behind all.
-fn push_one<F: Field>(
+/// Puts an entry behind the others, unless it is zero or its column is not behind them, and answers the first column behind all.
+fn push_entry<F: Field>(
     field: &F,
     entries: &mut Items<(u32, F::Elem)>,
     next: u32,
     column: u32,
+    x: F::Elem,
 ) -> Result<u32, Fault>
     requires ring { F.is_ring field.now }
+    requires elem { (F.meaning field.now).is_elem x }
     requires line { IsLine (F.meaning field.now) entries.old }
     requires below { AllBelow next entries.old }
     ensures line { OnOk result (IsLine (F.meaning field.now) entries.new) }
     ensures below { IfOk result (λ n. AllBelow n entries.new) }
 {
-    if column < next || column == u32::MAX {
+    if column < next || column == u32::MAX || field.eq(x, field.zero()) {
         return Ok(next);
     }
-    entries.push((column, field.one()))?;
+    entries.push((column, x))?;
     Ok(column + 1)
+}
+
+/// The row with these entries, as far as they are not zero and their columns rise.
+pub fn row_of<F: Field>(
+    alloc: Global,
+    field: &F,
+    given: &[(u32, F::Elem)],
+) -> Result<Row<F::Elem>, Fault>
+    requires ring { F.is_ring field.now }
+    requires elems { All (λ t. (F.meaning field.now).is_elem t.1) given.now }
+    ensures { IfOk result (λ r. IsLine (F.meaning field.now) r.entries) }
+{
+    let mut entries = Items::new(alloc);
+    let mut next = 0;
+    for t in given {
+        next = push_entry(field, &mut entries, next, t.0, t.1)?;
+    }
+    Ok(Row { entries })
 }
 
 /// The row with 1 in these columns, as far as they rise.
@@ -117,7 +137,7 @@ pub fn row_of_ones<F: Field>(
     let mut entries = Items::new(alloc);
     let mut next = 0;
     for column in columns {
-        next = push_one(field, &mut entries, next, *column)?;
+        next = push_entry(field, &mut entries, next, *column, field.one())?;
     }
     Ok(Row { entries })
 }

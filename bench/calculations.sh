@@ -1,0 +1,36 @@
+#!/usr/bin/env bash
+# Times calculations of the lower crates by the program bench_probe: a million products and inverses in a cubic field, a million searches
+# for a root of a cubic, squares of dense jets, and the rows of Mather's test of a dense germ. For each: its two counts, seconds, peak memory.
+set -eu
+top="$(cd "$(dirname "${BASH_SOURCE[0]}")/.." && pwd)"
+probe="$top/crates/bench_probe/out/bench_probe"
+[ -x "$probe" ] || (cd "$top/crates/bench_probe" && rt run -- products 1 >/dev/null)
+
+# timed WORD..: runs the program, with its peak memory as the kernel last told it.
+timed() {
+    local start end process peak now counts
+    counts="$(mktemp)"
+    peak=0
+    start="$(date +%s.%N)"
+    "$probe" "$@" >"$counts" &
+    process=$!
+    while now="$(awk '/VmHWM/ { print $2 }' "/proc/$process/status" 2>/dev/null)" && [ -n "$now" ]; do peak="$now"; done
+    wait "$process"
+    end="$(date +%s.%N)"
+    awk -v words="$*" -v counts="$(cat "$counts")" -v a="$start" -v b="$end" -v peak="$peak" \
+        'BEGIN { printf "%-20s counts %s, seconds %.2f, peak memory %s kB\n", words, counts, b - a, peak }'
+    rm -f "$counts"
+}
+
+if [ $# -gt 0 ]; then
+    timed "$@"
+    exit
+fi
+timed products 1000000
+timed inverses 1000000
+timed roots 1000000
+timed jets 3 16 969
+timed jets 8 12 500
+for order in 6 8 10; do
+    timed rows "$order" 4
+done

@@ -1,0 +1,73 @@
+//! Runs one of five calculations, so that it can be timed: `products N`, `inverses N`, `roots N`, `jets VARIABLES ORDER TERMS`,
+//! `rows ORDER LOWEST`. Prints two counts of what came out.
+#![tactic(auto)]
+
+mod jets;
+mod numbers;
+mod rows;
+
+use jets::square_of_dense;
+use numbers::{inverses, products, roots};
+use ring_law::Fault;
+use rows::mather_rows;
+use std::alloc::{AllocError, Global};
+use std::env;
+use std::process::ExitCode;
+
+// The words after the program's name; none where they are not all text.
+fn words_of(rt: &HostRuntime) -> Result<Vec<String>, AllocError> {
+    let mut words = Vec::new(rt.alloc());
+    if let Ok(arguments) = env::args(rt) {
+        for word in arguments.skip(1) {
+            words.push(word)?;
+        }
+    }
+    Ok(words)
+}
+
+// The number that a word spells, or 0.
+fn number_at(words: &[String], i: usize) -> u32 {
+    match words.get(i) {
+        Some(word) => word.parse::<u32>().unwrap_or(0),
+        None => 0,
+    }
+}
+
+// The same where it is below 256.
+fn small_number_at(words: &[String], i: usize) -> u8 {
+    u8::try_from(number_at(words, i)).unwrap_or(0)
+}
+
+// What the words ask for.
+fn counted(alloc: Global, words: &[String]) -> Result<(u64, u64), Fault> {
+    let n = number_at(words, 1);
+    match words.first() {
+        None => Ok((0, 0)),
+        Some(word) => match word.as_str() {
+            "products" => Ok(products(n)),
+            "inverses" => Ok(inverses(n)),
+            "roots" => Ok(roots(n)),
+            "jets" => square_of_dense(
+                alloc,
+                small_number_at(words, 1),
+                small_number_at(words, 2),
+                number_at(words, 3),
+            ),
+            "rows" => mather_rows(alloc, small_number_at(words, 1), small_number_at(words, 2)),
+            _ => Ok((0, 0)),
+        },
+    }
+}
+
+fn main(rt: HostRuntime) -> ExitCode {
+    let counts = match words_of(&rt) {
+        Ok(words) => counted(rt.alloc(), &words),
+        Err(_) => Err(Fault::NoMemory),
+    };
+    let printed = match counts {
+        Ok((first, second)) => println!(rt; "{first} {second}"),
+        Err(Fault::Range(_)) => println!(rt; "range"),
+        Err(Fault::NoMemory) => println!(rt; "no memory"),
+    };
+    ExitCode::from(if printed.is_ok() { 0 } else { 1 })
+}
