@@ -5,3 +5,5 @@ pub mod Fractions
 pub mod NameTexts
 pub mod Visible
 pub mod FamilyNames
+pub mod FactorTexts
+pub mod MonomialTexts

@@ -2,3 +2,4 @@ pub mod Reading
 pub mod Digits
 pub mod Names
 pub mod Numbers
+pub mod Factors

@@ -3,6 +3,7 @@
 
 mod family;
 mod fraction;
+mod monomial;
 mod name;
 mod number;
 mod splitting;
@@ -10,6 +11,7 @@ mod word;
 
 pub use family::read_family;
 pub use fraction::read_fraction;
+pub use monomial::read_monomial;
 pub use name::read_name;
 pub use number::{read_u8, read_u32, read_u64};
 pub use splitting::{split_at_byte, strip_front};

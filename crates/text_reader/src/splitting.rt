@@ -1,6 +1,6 @@
 //! Cutting bytes at a byte, and at a known front.
 
-ghost use Rattle.std.specs.Prelude.{◌≡◌, ◌≢◌, ℕ, ◌<◌, ◌==◌, None, List, ◌∷◌, ◌++◌, length, position, IfSome};
+ghost use Rattle.std.specs.Prelude.{◌≡◌, ◌≢◌, ℕ, ◌<◌, ◌==◌, None, List, ◌∷◌, ◌++◌, ◌↔◌, IsTrue, length, position, IfSome};
 ghost use Rattle.std.specs.List.{AllByRecursion};
 
 // The place of the first such byte.
@@ -9,6 +9,13 @@ fn place_of(bytes: &[u8], byte: u8) -> Option<usize>
     ensures within { IfSome result (λ at. at < length bytes.now) }
 {
     bytes.iter().position(|b| *b == byte)
+}
+
+/// True where the bytes are this text.
+pub(crate) fn is_text(bytes: &[u8], text: &[u8]) -> bool
+    ensures { IsTrue result ↔ (bytes.now ≡ text.now) }
+{
+    bytes == text
 }
 
 /// What stands before the first such byte and what stands behind it; `None` where there is none.
