@@ -1,5 +1,5 @@
 -- Changes of coordinates: their parts as jets that are substituted, the identity, compositions.
-use Rattle.std.proofs.Common.{◌≡◌, ℕ, zero, suc, ◌+◌, ◌<◌, ◌≤◌, List, [], ◌∷◌, length, get_or, set, Bool, true, false, cond, eqb, eqb-true, eq-eqb, ne_eqb, ◌++◌, inl, inr, sum, All, ◌≢◌, ap, ap₂, sym, ◌∙◌, refl, subst, arith}
+use Rattle.std.proofs.Common.{◌≡◌, ℕ, zero, suc, ◌+◌, ◌<◌, ◌≤◌, List, [], ◌∷◌, length, get_or, Bool, true, false, cond, eqb, eqb-true, eq-eqb, ne_eqb, ◌++◌, inl, inr, sum, All, ◌≢◌, ap, ap₂, sym, ◌∙◌, refl, subst, arith}
 use Rattle.std.proofs.lemmas.List.{get_or-set_same, get_or-set_other}
 use Rattle.ring_theory.specs.Ring.{RingOps, IsCommRing}
 use Rattle.ring_theory.specs.Scalars.{Meaning, MeaningLaws}
@@ -24,6 +24,7 @@ use Rattle.jet_poly.specs.Jets.{IsJet}
 use Rattle.jet_subst.specs.Parts.{variables_of, jet_at, part_of, IsPart}
 use Rattle.jet_subst.specs.Substitutions.{IsSubstHigh}
 use Rattle.jet_subst.proofs.Reduced.{zeros}
+use Rattle.coord_change.specs.Linear.{one_at}
 use Rattle.jet_subst.proofs.PowerLemmas.{at-append, at-last, before_or_last}
 
 module _ {E V : Type 0} (m : Meaning E V) where
@@ -102,10 +103,6 @@ module _ {E V : Type 0} (x : Exps E) (l : IsExps x) (r : RingOps V) (c : IsCommR
 
 -- ---- the jet of a variable
 
--- the exponents 0, .., 0 of eight variables, but 1 at variable i
-abbrev pub one_at : ℕ → List ℕ
-one_at i = set (0 ∷ 0 ∷ 0 ∷ 0 ∷ 0 ∷ 0 ∷ 0 ∷ 0 ∷ []) i 1
-
 one_at-at : (i j : ℕ) → i < 8 → get_or (one_at i) j 0 ≡ cond (eqb j i) 1 0
 one_at-at i j h = step (eqb j i) refl
   where
@@ -113,7 +110,7 @@ one_at-at i j h = step (eqb j i) refl
     step true e = ap (λ z. get_or (one_at i) z 0) (eqb-true j i e) ∙ get_or-set_same (0 ∷ 0 ∷ 0 ∷ 0 ∷ 0 ∷ 0 ∷ 0 ∷ 0 ∷ []) i 1 0 h
     step false e = get_or-set_other (0 ∷ 0 ∷ 0 ∷ 0 ∷ 0 ∷ 0 ∷ 0 ∷ 0 ∷ []) i j 1 0 (λ q. let bad : true ≡ false = sym (eq-eqb j i q) ∙ e in cc bad) ∙ zeros j
 
-one_at-in : (n i : ℕ) → i < n → n ≤ 8 → IsIn n (one_at i)
+pub one_at-in : (n i : ℕ) → i < n → n ≤ 8 → IsIn n (one_at i)
 one_at-in n i h e j g = one_at-at i j (omega arith) ∙ ap (λ b. cond {A = ℕ} b 1 0) (ne_eqb j i (λ q. omega arith))
 
 pub exp_of-one_at : (n i : ℕ) → i < n → n ≤ 8 → exp_of n (record { e = one_at i }) ≡ variable (exps n) i

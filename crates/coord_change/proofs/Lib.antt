@@ -1,2 +1,9 @@
 pub mod Matrices
 pub mod ChangeLemmas
+pub mod Dimension
+pub mod Reductions
+pub mod MatrixRows
+pub mod KernelVectors
+pub mod RowSteps
+pub mod LinearForms
+pub mod InverseLemmas

@@ -26,7 +26,7 @@ column_inside n k h = mod-lt k {m = n} h
 pub row_inside : (n k : ℕ) → 0 < n → k < n * n → k / n < n
 row_inside n k h g = (div-lt_iff_lt-mul {k = n} {x = k} {y = n} h).1 g
 
-element : {X : Type 0} (xs : List X) (k : ℕ) → k < length xs → (x : X) × (x ≡ get_or xs k x)
+pub element : {X : Type 0} (xs : List X) (k : ℕ) → k < length xs → (x : X) × (x ≡ get_or xs k x)
 element [] k h = absurd (omega arith)
 element (x ∷ xs) zero h = (x, refl)
 element (x ∷ xs) (suc k) h = element xs k (omega arith)

@@ -1,1 +1,5 @@
 pub mod Changes
+pub mod Inverses
+pub mod Errors
+pub mod Inversions
+pub mod Linear

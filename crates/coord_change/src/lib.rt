@@ -3,13 +3,21 @@
 
 mod change;
 mod composition;
+mod error;
+mod forms;
+mod inverse;
 mod matrix;
+mod parts;
 mod pullback;
+mod rows;
 #[cfg(test)]
 mod tests;
 mod unit;
 
 pub use change::{Change, ChangeOf};
 pub use composition::then;
+pub use error::ChangeError;
+pub use forms::linear;
+pub use parts::from_parts;
 pub use pullback::carry;
 pub use unit::identity;

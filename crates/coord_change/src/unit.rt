@@ -9,6 +9,7 @@ ghost use Rattle.jet_law.specs.Terms.{poly_of};
 ghost use Rattle.jet_poly.specs.Jets.{IsJet};
 ghost use Rattle.jet_subst.specs.Parts.{part_of};
 ghost use Rattle.coord_change.specs.Changes.{IsChange};
+ghost use Rattle.coord_change.specs.Linear.{one_at};
 
 use crate::change::{Change, ChangeOf};
 use crate::matrix::unit_matrix;
@@ -17,6 +18,16 @@ use mono_exp::Exp;
 use ring_law::{Fault, Ring};
 use sqlite_items::Items;
 use std::alloc::Global;
+
+/// The monomial that is variable i.
+pub fn monomial(i: usize) -> Exp
+    requires { i < 8 }
+    ensures { result.e ≡ one_at i }
+{
+    let mut e = [0; 8];
+    e[i] = 1;
+    Exp { e }
+}
 
 /// The jet of variable i.
 fn variable<R: Ring>(alloc: Global, ring: &R, n: u8, order: u8, i: u8) -> Result<JetOf<R>, Fault>
@@ -30,10 +41,8 @@ fn variable<R: Ring>(alloc: Global, ring: &R, n: u8, order: u8, i: u8) -> Result
     ensures value { IfOk result (λ p. let m = R.meaning ring.now in poly_of n m.value p.terms ≡ term_in n m.scalars.ops (variable_of (exps n) i)) }
     ensures range { OnFault result ⊥ }
 {
-    let mut e = [0; 8];
-    e[usize::from(i)] = 1;
     let mut terms = Vec::new(alloc);
-    terms.push((Exp { e }, ring.one()))?;
+    terms.push((monomial(usize::from(i)), ring.one()))?;
     Ok(Jet::from_rising(n, order, terms))
 }
 
