@@ -1,77 +1,61 @@
-//! The reports of an input, written one after another.
-ghost use Rattle.germ_cli.specs.Run.{line_text, piece_text, whole_text};
-ghost use Rattle.line_io.specs.Bytes.{AppendsFront};
-ghost use Rattle.line_io.specs.Causes.{Rose};
-ghost use Rattle.one_variable_law.specs.Rightness.{HasRightReports};
-ghost use Rattle.std.specs.Io.KnownBytes.{Appends};
-ghost use Rattle.std.specs.Prelude.{◌≡◌, ◌≤◌, OnOk, IsErrOf, length};
+//! The text for one line.
+ghost use Rattle.germ_cli.specs.Answers.{IsAnswer, IsAnswerText, IsTextFor};
+ghost use Rattle.line_io.specs.LineSoFar.{IsUnbroken};
+ghost use Rattle.line_io.specs.Reading.{IsHandedOut};
+ghost use Rattle.std.specs.Prelude.{◌≡◌, ◌≤◌, ◌<◌, ℕ, List, length, IfOk};
 
-use cert_text::write_report;
-use line_io::{Sink, is_answered_line, line_in, split_piece, write_whole};
+use cert_text::{Answer, Report, write_report};
+use line_io::{MAX_LINE, Next, is_answered_line};
 use one_variable::classify;
-use std::alloc::Global;
-use thiserror::Error;
+use ring_law::NoMemory;
+use sqlite_items::Items;
+use std::alloc::{AllocError, Global};
 
-/// Why the reports were not all written.
-#[derive(Clone, Copy, Debug, PartialEq, Eq, Error)]
-pub enum WriteStop {
-    #[error("a write failed")]
-    Fault,
-    #[error("memory ran out")]
-    Memory,
-}
-
-fn write_line<W: Sink>(alloc: Global, line: &[u8], sink: &mut W) -> Result<(), WriteStop>
-    ensures ok { OnOk result (Appends (W.taken sink.old) (W.taken sink.new) (line_text line.now)) }
-    ensures front { AppendsFront (W.taken sink.old) (W.taken sink.new) (line_text line.now) }
-    ensures later { W.faults sink.old ≤ W.faults sink.new }
-    ensures fault { IsErrOf result WriteStop.Fault → Rose (W.faults sink.old) (W.faults sink.new) }
+// The report of a line up to this order.
+fn report_of_line(alloc: Global, limit: u8, line: &[u8]) -> Result<Report, AllocError>
+    requires short { length line.now ≤ MAX_LINE }
+    requires unbroken { IsUnbroken line.now }
+    ensures { IfOk result (IsAnswer limit line.now) }
 {
-    let Ok(report) = classify(alloc, line) else {
-        return Err(WriteStop::Memory);
-    };
-    let Ok(text) = write_report(alloc, &report) else {
-        return Err(WriteStop::Memory);
-    };
-    match write_whole(sink, &text) {
-        Ok(()) => Ok(()),
-        Err(_) => Err(WriteStop::Fault),
-    }
-}
-
-// Writes the report of the line of a piece, if it is answered.
-fn write_answer<W: Sink>(alloc: Global, piece: &[u8], sink: &mut W) -> Result<(), WriteStop>
-    ensures ok { OnOk result (Appends (W.taken sink.old) (W.taken sink.new) (piece_text piece.now)) }
-    ensures front { AppendsFront (W.taken sink.old) (W.taken sink.new) (piece_text piece.now) }
-    ensures later { W.faults sink.old ≤ W.faults sink.new }
-    ensures fault { IsErrOf result WriteStop.Fault → Rose (W.faults sink.old) (W.faults sink.new) }
-{
-    let line = line_in(piece);
-    if is_answered_line(line) {
-        write_line(alloc, line, sink)
+    if limit == 12 {
+        classify(alloc, line)
     } else {
-        Ok(())
+        Ok(Report::Line {
+            line: Items::from_slice(alloc, line)?,
+            answer: Answer::Unbuilt,
+        })
     }
 }
 
-/// Writes the report of each answered line of the input, in order, or at an error a front of them.
-///
-/// Errors: `Fault` only where a write failed, `Memory` where memory ran out.
-pub fn write_reports<W: Sink>(alloc: Global, input: &[u8], sink: &mut W) -> Result<(), WriteStop>
-    ensures ok { OnOk result (Appends (W.taken sink.old) (W.taken sink.new) (whole_text input.now)) }
-    ensures front { AppendsFront (W.taken sink.old) (W.taken sink.new) (whole_text input.now) }
-    ensures right { length input.now ≤ 16777216 → HasRightReports input.now }
-    ensures later { W.faults sink.old ≤ W.faults sink.new }
-    ensures fault { IsErrOf result WriteStop.Fault → Rose (W.faults sink.old) (W.faults sink.new) }
+// The text of the report of a line.
+fn answer_text(alloc: Global, limit: u8, line: &[u8]) -> Result<Vec<u8>, NoMemory>
+    requires short { length line.now ≤ MAX_LINE }
+    requires unbroken { IsUnbroken line.now }
+    ensures { IfOk result (λ text. IsAnswerText limit line.now text.items) }
 {
-    let mut rest = input;
-    while !rest.is_empty() {
-        let (piece, after) = split_piece(rest);
-        match write_answer(alloc, piece, sink) {
-            Ok(()) => {}
-            Err(stop) => return Err(stop),
-        }
-        rest = after;
+    match report_of_line(alloc, limit, line) {
+        Ok(report) => write_report(alloc, &report),
+        Err(_) => Err(NoMemory),
     }
-    Ok(())
+}
+
+// The text of the report of a line with so many bytes, which is too long.
+fn too_long_text(alloc: Global, count: u64) -> Result<Vec<u8>, NoMemory>
+    ensures { IfOk result (λ text. (limit : ℕ) (line : List ℕ) → count ≡ length line → MAX_LINE < length line → IsAnswerText limit line text.items) }
+{
+    write_report(alloc, &Report::Long { length: count })
+}
+
+/// The text for a line that was handed out, up to this order: that of its report, or nothing where it
+/// is passed over. `line` is the line after `Next::Line`.
+pub fn text_for(alloc: Global, limit: u8, next: Next, line: &[u8]) -> Result<Vec<u8>, NoMemory>
+    requires short { next ≡ Next.Line → length line.now ≤ MAX_LINE }
+    requires unbroken { next ≡ Next.Line → IsUnbroken line.now }
+    ensures { IfOk result (λ text. (bytes : List ℕ) → IsHandedOut bytes line.now next → IsTextFor limit bytes text.items) }
+{
+    match next {
+        Next::Line if is_answered_line(line) => answer_text(alloc, limit, line),
+        Next::Long(count) => too_long_text(alloc, count),
+        _ => Ok(Vec::new(alloc)),
+    }
 }

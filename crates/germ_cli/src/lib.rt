@@ -2,11 +2,11 @@
 #![tactic(auto)]
 
 mod answers;
+mod classification;
+mod command;
 mod status;
 mod top;
 
+pub use command::{Command, read_words};
 pub use status::Status;
 pub use top::run;
-
-#[cfg(test)]
-mod tests;

@@ -1,28 +1,28 @@
-use Rattle.germ_cli.proofs.Written.{wrote_front}
+use Rattle.germ_cli.proofs.Words.{as_asked}
 use Rattle.germ_cli.proofs.top.run.Goals as goal
-use Rattle.one_variable.proofs.Exactly.{too_long, unbuilt}
+use Rattle.germ_cli.specs.declared.command.Command.TheVariants as commands
 use Rattle.std.proofs.Common.{inl, refl}
 
-pub returns-then-is_classify_words-clause-front : goal.returns-then-is_classify_words-clause-front
-returns-then-is_classify_words-clause-front g c = λ _. wrote_front _ _ _ c.classify_all.ensures.front
+pub returns-in-Some-clause-done : goal.returns-in-Some-clause-done
+returns-in-Some-clause-done g c = λ limit asked. (as_asked _ c.in-Some.command limit _ _ _ _ _ c.in-Some.ensures.some asked c.execute.ensures.classifies).done
 
-pub returns-then-is_classify_words-clause-too_long : goal.returns-then-is_classify_words-clause-too_long
-returns-then-is_classify_words-clause-too_long g c = too_long
+pub returns-in-Some-clause-front : goal.returns-in-Some-clause-front
+returns-in-Some-clause-front g c = λ limit asked. (as_asked _ c.in-Some.command limit _ _ _ _ _ c.in-Some.ensures.some asked c.execute.ensures.classifies).front
 
-pub returns-then-is_classify_words-clause-unbuilt : goal.returns-then-is_classify_words-clause-unbuilt
-returns-then-is_classify_words-clause-unbuilt g c = unbuilt
+pub returns-in-Some-clause-fault : goal.returns-in-Some-clause-fault
+returns-in-Some-clause-fault g c = λ limit asked. (as_asked _ c.in-Some.command limit _ _ _ _ _ c.in-Some.ensures.some asked c.execute.ensures.classifies).fault
+
+pub returns-in-Some-clause-at_limit : goal.returns-in-Some-clause-at_limit
+returns-in-Some-clause-at_limit g c = λ limit asked. (as_asked _ c.in-Some.command limit _ _ _ _ _ c.in-Some.ensures.some asked c.execute.ensures.classifies).at_limit
+
+pub returns-in-Ok-clause-front : goal.returns-in-Ok-clause-front
+returns-in-Ok-clause-front g c = λ limit asked. absurd (c.in-None.ensures.none refl (commands.Classify limit) asked)
 
 pub returns-in-Ok-clause-wrong : goal.returns-in-Ok-clause-wrong
 returns-in-Ok-clause-wrong g c = λ _. inl (refl, c.in-Ok.ensures.whole)
 
-pub returns-in-Ok-clause-too_long : goal.returns-in-Ok-clause-too_long
-returns-in-Ok-clause-too_long g c = too_long
+pub returns-in-Ok-clause-complete : goal.returns-in-Ok-clause-complete
+returns-in-Ok-clause-complete g c = λ limit asked. absurd (c.in-None.ensures.none refl (commands.Classify limit) asked)
 
-pub returns-in-Ok-clause-unbuilt : goal.returns-in-Ok-clause-unbuilt
-returns-in-Ok-clause-unbuilt g c = unbuilt
-
-pub returns-in-Err-clause-too_long : goal.returns-in-Err-clause-too_long
-returns-in-Err-clause-too_long g c = too_long
-
-pub returns-in-Err-clause-unbuilt : goal.returns-in-Err-clause-unbuilt
-returns-in-Err-clause-unbuilt g c = unbuilt
+pub returns-in-Err-clause-front : goal.returns-in-Err-clause-front
+returns-in-Err-clause-front g c = λ limit asked. absurd (c.in-None.ensures.none refl (commands.Classify limit) asked)

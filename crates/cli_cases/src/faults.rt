@@ -1,0 +1,87 @@
+//! Faults of the source between any two bytes, sinks that are full or fail, and inputs at their limit.
+use crate::words_of;
+use germ_cli::{Status, run};
+use line_io::{MemSink, MemSource};
+use std::test::*;
+
+const MEMORY: &str = "memory ran out";
+
+const ROOM: usize = 10_000;
+
+// The first line is ended by byte 8, the last one by byte 22; between them stand a blank line and a comment.
+const INPUT: &[u8] = b"[y] 3*y\n\n# note\r\nx*y\r\n[z] z";
+
+const FIRST: &[u8] = b"germ [y] 3*y\nanswer not-critical y\nend\n";
+
+const BOTH: &[u8] = b"germ [y] 3*y\nanswer not-critical y\nend\ngerm x*y\nanswer unbuilt\nend\n";
+
+const ALL: &[u8] =
+    b"germ [y] 3*y\nanswer not-critical y\nend\ngerm x*y\nanswer unbuilt\nend\ngerm [z] z\nanswer not-critical z\nend\n";
+
+// What is written where the source failed after so many bytes.
+fn written_after(bytes: u64) -> &'static [u8] {
+    match bytes {
+        0..8 => b"",
+        8..22 => FIRST,
+        _ => BOTH,
+    }
+}
+
+#[test]
+fn a_read_fault_between_any_two_bytes(rt: HostRuntime) -> Result<(), Fail> {
+    let words = words_of(rt.alloc(), &["classify"])?;
+    for bytes in 0..28 {
+        let failing = [bytes + 1];
+        let mut source = MemSource::new(rt.alloc(), INPUT, 1, &failing).map_err(|_| MEMORY)?;
+        let mut sink = MemSink::new(rt.alloc(), ROOM, ROOM, &[]).map_err(|_| MEMORY)?;
+        let status = run(rt.alloc(), &words, &mut source, &mut sink);
+        assert_eq!(rt; status, Status::ReadFault);
+        assert_eq!(rt; sink.bytes(), written_after(bytes), "after {bytes} bytes");
+    }
+    Ok(())
+}
+
+#[test]
+fn a_sink_that_is_full_after_any_byte(rt: HostRuntime) -> Result<(), Fail> {
+    let words = words_of(rt.alloc(), &["classify"])?;
+    for room in 0..ALL.len() {
+        let mut source = MemSource::new(rt.alloc(), INPUT, ROOM, &[]).map_err(|_| MEMORY)?;
+        let mut sink = MemSink::new(rt.alloc(), room, ROOM, &[]).map_err(|_| MEMORY)?;
+        let status = run(rt.alloc(), &words, &mut source, &mut sink);
+        assert_eq!(rt; status, Status::WriteFault);
+        assert_eq!(rt; sink.bytes().len(), room);
+        assert!(rt; ALL.starts_with(sink.bytes()));
+    }
+    Ok(())
+}
+
+#[test]
+fn a_sink_that_fails_at_any_call(rt: HostRuntime) -> Result<(), Fail> {
+    let words = words_of(rt.alloc(), &["classify"])?;
+    for call in 1..=15 {
+        let mut source = MemSource::new(rt.alloc(), INPUT, 3, &[]).map_err(|_| MEMORY)?;
+        let mut sink = MemSink::new(rt.alloc(), ROOM, 7, &[call]).map_err(|_| MEMORY)?;
+        let status = run(rt.alloc(), &words, &mut source, &mut sink);
+        assert_eq!(rt; status, Status::WriteFault);
+        assert!(rt; ALL.starts_with(sink.bytes()));
+    }
+    Ok(())
+}
+
+// A line, and then newlines up to the limit, or one more.
+#[test]
+fn an_input_at_its_limit(rt: HostRuntime) -> Result<(), Fail> {
+    let words = words_of(rt.alloc(), &["classify"])?;
+    for (count, wanted) in [(16_777_208, Status::Done), (16_777_209, Status::InputLimit)] {
+        let mut input = b"[y] 3*y\n".to_vec(rt.alloc())?;
+        for _ in 0..count {
+            input.push(b'\n')?;
+        }
+        let mut source = MemSource::new(rt.alloc(), &input, 65_536, &[]).map_err(|_| MEMORY)?;
+        let mut sink = MemSink::new(rt.alloc(), ROOM, ROOM, &[]).map_err(|_| MEMORY)?;
+        let status = run(rt.alloc(), &words, &mut source, &mut sink);
+        assert_eq!(rt; status, wanted);
+        assert_eq!(rt; sink.bytes(), FIRST);
+    }
+    Ok(())
+}

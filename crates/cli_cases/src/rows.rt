@@ -1,0 +1,100 @@
+//! Rows: what is written for an input, byte for byte, and which words are answered by the usage line. The reports are written by
+//! hand from the rule that `c*x^m` is A(m-1).
+use crate::words_of;
+use germ_cli::{Command, Status, read_words, run};
+use line_io::{MemSink, MemSource};
+use std::test::*;
+
+const MEMORY: &str = "memory ran out";
+
+const ROOM: usize = 10_000;
+
+const LIMIT: &[u8] =
+    b"germ [x] 0\nanswer limit\norder 12\nalgebra Q\ncorank 1\nchange\nx = u1\ninverse\n1\njet 0\nfunctional u1^13 1\nu1^13 1\nend\n";
+
+const MORSE: &[u8] =
+    b"germ [x] 2*x^2-5*x^40\nanswer named A1\norder 2\nalgebra Q\ncorank 0\nchange\nx = u1\ninverse\n1\nform 2*u1^2\nunits 1\n2 1/2\nmodulus none\nmilnor 1\nmather 0\nbasis 1\ntable 1\n1 = 1 :\nend\n";
+
+const MIXED: &[u8] = b"[y] 3*y\n\n# note\r\nx*y\r\n[z] z";
+
+const MIXED_TEXT: &[u8] =
+    b"germ [y] 3*y\nanswer not-critical y\nend\ngerm x*y\nanswer unbuilt\nend\ngerm [z] z\nanswer not-critical z\nend\n";
+
+const USAGE: &[u8] = b"usage: germ classify [K] | check | make START COUNT | table\n";
+
+#[test]
+fn one_report_for_each_answered_line(rt: HostRuntime) -> Result<(), Fail> {
+    let words = words_of(rt.alloc(), &["classify"])?;
+    let rows = [
+        (b"[x] 0\n".as_slice(), LIMIT),
+        (b"[x] 2*x^2-5*x^40", MORSE),
+        (MIXED, MIXED_TEXT),
+        (b"", b""),
+        (b"\n\r\n \t\n#", b""),
+    ];
+    for (input, text) in rows {
+        for step in [1, 7, ROOM] {
+            let mut source = MemSource::new(rt.alloc(), input, step, &[]).map_err(|_| MEMORY)?;
+            let mut sink = MemSink::new(rt.alloc(), ROOM, step, &[]).map_err(|_| MEMORY)?;
+            let status = run(rt.alloc(), &words, &mut source, &mut sink);
+            assert_eq!(rt; status, Status::Done);
+            assert_eq!(rt; sink.bytes(), text);
+        }
+    }
+    Ok(())
+}
+
+#[test]
+fn a_line_of_65537_bytes_is_too_long(rt: HostRuntime) -> Result<(), Fail> {
+    let words = words_of(rt.alloc(), &["classify"])?;
+    let input = vec![in rt.alloc(); b' '; 65_537]?;
+    let mut source = MemSource::new(rt.alloc(), &input, ROOM, &[]).map_err(|_| MEMORY)?;
+    let mut sink = MemSink::new(rt.alloc(), ROOM, ROOM, &[]).map_err(|_| MEMORY)?;
+    let status = run(rt.alloc(), &words, &mut source, &mut sink);
+    assert_eq!(rt; status, Status::Done);
+    assert_eq!(rt;
+        sink.bytes(),
+        b"long 65537\nanswer too-long\nend\n".as_slice()
+    );
+    Ok(())
+}
+
+#[test]
+fn words_are_read(rt: HostRuntime) -> Result<(), Fail> {
+    let rows = [
+        (["classify", "3"], Some(Command::Classify { limit: 3 })),
+        (["classify", "9"], Some(Command::Classify { limit: 9 })),
+        (["classify", "10"], Some(Command::Classify { limit: 10 })),
+        (["classify", "16"], Some(Command::Classify { limit: 16 })),
+        (["classify", "2"], None),
+        (["classify", "17"], None),
+        (["classify", "07"], None),
+        (["classify", "+7"], None),
+        (["classify", ""], None),
+        (["Classify", "7"], None),
+        (["make", "1"], None),
+    ];
+    for (words, command) in rows {
+        let words = words_of(rt.alloc(), &words)?;
+        assert_eq!(rt; read_words(&words), command);
+    }
+    let alone = words_of(rt.alloc(), &["classify"])?;
+    assert_eq!(rt; read_words(&alone), Some(Command::Classify { limit: 12 }));
+    let three = words_of(rt.alloc(), &["classify", "7", "7"])?;
+    assert_eq!(rt; read_words(&three), None);
+    Ok(())
+}
+
+// The source would fail at its first call.
+#[test]
+fn other_words_are_answered_before_any_read(rt: HostRuntime) -> Result<(), Fail> {
+    for words in [["check"].as_slice(), &["classify", "17"], &[]] {
+        let words = words_of(rt.alloc(), words)?;
+        let mut source = MemSource::new(rt.alloc(), MIXED, 5, &[1]).map_err(|_| MEMORY)?;
+        let mut sink = MemSink::new(rt.alloc(), ROOM, 7, &[]).map_err(|_| MEMORY)?;
+        let status = run(rt.alloc(), &words, &mut source, &mut sink);
+        assert_eq!(rt; status, Status::Usage);
+        assert_eq!(rt; sink.bytes(), USAGE);
+    }
+    Ok(())
+}

@@ -1,0 +1,60 @@
+-- Words that ask for a command.
+use Rattle.germ_cli.specs.Run.{Classifies}
+use Rattle.germ_cli.specs.Words.{AsksFor, IsLimit}
+use Rattle.germ_cli.specs.declared.command.Command.TheVariants as commands
+use Rattle.germ_cli.specs.declared.command.Command.{Command}
+use Rattle.germ_cli.specs.declared.status.Status.{Status}
+use Rattle.std.proofs.Common.{◌≡◌, ℕ, ◌<◌, ◌≤◌, true, List, [], ◌∷◌, length, get_or, map, ap, ap₂, arith, inl, inr, refl, subst, sym, ◌∙◌}
+use Rattle.std.proofs.lemmas.Fmt.{decimal_injective}
+use Rattle.std.proofs.lemmas.Slice.Eq.{bytes_eq-Decides}
+use Rattle.std.specs.Prelude.{bytes_eq, decimal}
+use Rattle.std.specs.declared.option.Option.{Option}
+use Rattle.text_reader.specs.Reading.{IsTextOf}
+
+-- a word that is the text of one number is that of no other
+pub other_limit : (n : ℕ) (word : List ℕ) → IsTextOf (λ k. k < 256) decimal word n → (3 ≤ n → n ≤ 16 → ⊥) → (limit : ℕ) → IsLimit limit → decimal limit ≡ word → ⊥
+other_limit n word is out limit among e =
+    let same : limit ≡ n = decimal_injective limit n (omega (arith, among.high)) (omega (arith, is.0)) (e ∙ sym is.1) in
+    out (omega (arith, same, among.low)) (omega (arith, same, among.high))
+
+-- one word, as bytes
+pub one_item : {A : Type 0} (f : A → List ℕ) (xs : List A) (x : A) → 1 ≤ length xs → length xs < 2 → x ≡ get_or xs 0 x → map f xs ≡ f x ∷ []
+one_item f [] x some few e = absurd (omega arith)
+one_item f (y ∷ []) x some few e = ap (λ z. f z ∷ []) (sym e)
+one_item f (y ∷ z ∷ zs) x some few e = absurd (omega arith)
+
+-- two words, as bytes
+pub two_items : {A : Type 0} (f : A → List ℕ) (xs : List A) (x y : A) → 2 ≤ length xs → length xs < 3 → x ≡ get_or xs 0 x → y ≡ get_or xs 1 y → map f xs ≡ f x ∷ f y ∷ []
+two_items f [] x y some few e g = absurd (omega arith)
+two_items f (z ∷ []) x y some few e g = absurd (omega arith)
+two_items f (z ∷ w ∷ []) x y some few e g = ap₂ (λ a b. f a ∷ f b ∷ []) (sym e) (sym g)
+two_items f (z ∷ w ∷ v ∷ vs) x y some few e g = absurd (omega arith)
+
+-- one word that the test finds to be this one
+pub one_word : {A : Type 0} (f : A → List ℕ) (xs : List A) (x : A) (text name : List ℕ) → 1 ≤ length xs → length xs < 2 → x ≡ get_or xs 0 x → text ≡ f x → true ≡ bytes_eq text name → map f xs ≡ name ∷ []
+one_word f xs x text name some few e is test =
+    one_item f xs x some few e ∙ ap (λ (w : List ℕ). w ∷ []) (sym is ∙ (bytes_eq-Decides text name).0 (sym test))
+
+-- such a word, and one more
+pub two_words : {A : Type 0} (f : A → List ℕ) (xs : List A) (x y : A) (text name second : List ℕ) → 2 ≤ length xs → length xs < 3 → x ≡ get_or xs 0 x → y ≡ get_or xs 1 y → text ≡ f x → true ≡ bytes_eq text name
+    → second ≡ f y → map f xs ≡ name ∷ second ∷ []
+two_words f xs x y text name second some few e g is test that =
+    two_items f xs x y some few e g ∙ ap₂ (λ (w v : List ℕ). w ∷ v ∷ []) (sym is ∙ (bytes_eq-Decides text name).0 (sym test)) (sym that)
+
+one_of : {A : Type 0} (words : List (List ℕ)) (x y z : List ℕ) → words ≡ x ∷ [] → words ≡ y ∷ z ∷ [] → A
+one_of words x y z e g = absurd (let both : x ∷ [] ≡ y ∷ z ∷ [] = sym e ∙ g in cc)
+
+last_of : (words : List (List ℕ)) (x y z : List ℕ) → words ≡ x ∷ y ∷ [] → words ≡ x ∷ z ∷ [] → y ≡ z
+last_of words x y z e g = let both : x ∷ y ∷ [] ≡ x ∷ z ∷ [] = sym e ∙ g in cc
+
+-- words ask for one order limit
+pub one_limit : (words : List (List ℕ)) (m n : ℕ) → AsksFor words (commands.Classify m) → AsksFor words (commands.Classify n) → m ≡ n
+one_limit words m n (inl p) (inl q) = p.1 ∙ sym q.1
+one_limit words m n (inl p) (inr q) = one_of words _ _ _ p.0 q.0
+one_limit words m n (inr p) (inl q) = one_of words _ _ _ q.0 p.0
+one_limit words m n (inr p) (inr q) = decimal_injective m n (omega (arith, p.1.high)) (omega (arith, q.1.high)) (last_of words _ _ _ p.0 q.0)
+
+-- a run up to the order that the words ask for
+pub as_asked : (words : List (List ℕ)) (command : Command) (limit : ℕ) (left after old new : Option (List ℕ)) (status : Status) → AsksFor words command → AsksFor words (commands.Classify limit)
+    → ((k : ℕ) → command ≡ commands.Classify k → Classifies k left after old new status) → Classifies limit left after old new status
+as_asked words (commands.Classify m) limit left after old new status p q run = let P : ℕ → Type 0 = λ k. Classifies k left after old new status in subst P (one_limit words m limit p q) (run m refl)

@@ -1,0 +1,18 @@
+-- What the words after the program's name ask for.
+use Rattle.germ_cli.specs.declared.command.Command.TheVariants as commands
+use Rattle.germ_cli.specs.declared.command.Command.{Command}
+use Rattle.std.specs.Prelude.{◌≡◌, ◌⊎◌, ℕ, ◌≤◌, List, [], ◌∷◌, codes, decimal}
+
+-- an order limit that the word K may name
+pub record IsLimit (limit : ℕ) : Type 0 where
+  pub low : 3 ≤ limit
+  pub high : limit ≤ 16
+
+-- the words ask for this command: `classify` up to order 12, or `classify K` up to order K
+abbrev pub AsksFor : List (List ℕ) → Command → Type 0
+AsksFor words (commands.Classify limit) =
+    ((words ≡ codes "classify" ∷ []) × (limit ≡ 12)) ⊎ ((words ≡ codes "classify" ∷ decimal limit ∷ []) × IsLimit limit)
+
+-- the words ask for no command
+abbrev pub AskForNothing : List (List ℕ) → Type 0
+AskForNothing words = (command : Command) → AsksFor words command → ⊥
