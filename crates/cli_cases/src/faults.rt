@@ -1,4 +1,4 @@
-//! Faults of the source between any two bytes, sinks that are full or fail, and inputs at their limit.
+//! Faults of the source between any two bytes, and sinks that are full or fail.
 use crate::words_of;
 use germ_cli::{Status, run};
 use line_io::{MemSink, MemSource};
@@ -64,24 +64,6 @@ fn a_sink_that_fails_at_any_call(rt: HostRuntime) -> Result<(), Fail> {
         let status = run(rt.alloc(), &words, &mut source, &mut sink);
         assert_eq!(rt; status, Status::WriteFault);
         assert!(rt; ALL.starts_with(sink.bytes()));
-    }
-    Ok(())
-}
-
-// A line, and then newlines up to the limit, or one more.
-#[test]
-fn an_input_at_its_limit(rt: HostRuntime) -> Result<(), Fail> {
-    let words = words_of(rt.alloc(), &["classify"])?;
-    for (count, wanted) in [(16_777_208, Status::Done), (16_777_209, Status::InputLimit)] {
-        let mut input = b"[y] 3*y\n".to_vec(rt.alloc())?;
-        for _ in 0..count {
-            input.push(b'\n')?;
-        }
-        let mut source = MemSource::new(rt.alloc(), &input, 65_536, &[]).map_err(|_| MEMORY)?;
-        let mut sink = MemSink::new(rt.alloc(), ROOM, ROOM, &[]).map_err(|_| MEMORY)?;
-        let status = run(rt.alloc(), &words, &mut source, &mut sink);
-        assert_eq!(rt; status, wanted);
-        assert_eq!(rt; sink.bytes(), FIRST);
     }
     Ok(())
 }
