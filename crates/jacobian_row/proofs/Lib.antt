@@ -1,0 +1,9 @@
+pub mod ListSteps
+pub mod MultipleLemmas
+pub mod MultipleOrder
+pub mod Membership
+pub mod NumberLemmas
+pub mod RowLemmas
+pub mod MultiplierLemmas
+pub mod Combinations
+pub mod RowFacts

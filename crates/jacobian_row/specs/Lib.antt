@@ -1,0 +1,4 @@
+pub mod Numbers
+pub mod Multiples
+pub mod Rows
+pub mod Multipliers
