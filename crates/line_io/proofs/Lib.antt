@@ -1,4 +1,3 @@
 pub mod Handing
 pub mod Known
-pub mod Pieces
 pub mod Reading

@@ -6,17 +6,6 @@ use thiserror::Error;
 #[error("the read or write failed")]
 pub struct Failed;
 
-/// Why an input was not read whole.
-#[derive(Clone, Copy, Debug, PartialEq, Eq, Error)]
-pub enum ReadStop {
-    #[error("a read failed")]
-    Fault,
-    #[error("the input is longer than its limit")]
-    Limit,
-    #[error("memory ran out")]
-    Memory,
-}
-
 /// The sink failed, or took nothing of a piece that is not empty.
 #[derive(Clone, Copy, Debug, PartialEq, Eq, Error)]
 #[error("a write failed")]

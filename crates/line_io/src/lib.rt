@@ -17,16 +17,17 @@ mod standard;
 mod whole;
 
 pub use clean_source::CleanSource;
-pub use error::{Failed, ReadStop, WriteFault};
-pub use line::{MAX_LINE, is_answered_line, line_in, split_piece};
+pub use error::{Failed, WriteFault};
+pub use line::{MAX_LINE, is_answered_line};
 pub use lines::Lines;
 pub use mem_sink::MemSink;
 pub use mem_source::MemSource;
 pub use next::Next;
+pub use next_line::INPUT_LIMIT;
 pub use sink::Sink;
 pub use source::Source;
 pub use standard::{StdSink, StdSource};
-pub use whole::{INPUT_LIMIT, read_whole, write_whole};
+pub use whole::write_whole;
 
 #[cfg(test)]
 mod tests;

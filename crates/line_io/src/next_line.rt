@@ -8,8 +8,10 @@ ghost use Rattle.std.specs.Prelude.{◌≡◌, ◌≤◌, ◌<◌, ◌+◌, ◌^
 use crate::line::newline_at;
 use crate::lines::Lines;
 use crate::next::Next;
-use crate::whole::INPUT_LIMIT;
 use crate::{Failed, Source};
+
+/// The most bytes of an input.
+pub const INPUT_LIMIT: u64 = 16_777_216;
 
 impl Lines {
     // Moves the bytes held into the line, up to a newline; true where there was one.
@@ -84,7 +86,7 @@ impl Lines {
         ensures stays { has_failed self.old ≡ true → has_failed self.new ≡ true }
         ensures later { S.faults source.old ≤ S.faults source.new }
     {
-        if self.taken > INPUT_LIMIT as u64 {
+        if self.taken > INPUT_LIMIT {
             return Next::InputLimit;
         }
         if self.faulted {
@@ -105,7 +107,7 @@ impl Lines {
                 Ok(()) => {}
                 Err(_) => return Next::ReadFault,
             }
-            if self.taken > INPUT_LIMIT as u64 {
+            if self.taken > INPUT_LIMIT {
                 return Next::InputLimit;
             }
         }
