@@ -7,3 +7,6 @@ pub mod Visible
 pub mod FamilyNames
 pub mod FactorTexts
 pub mod MonomialTexts
+pub mod PieceTexts
+pub mod ComponentTexts
+pub mod ElementTexts

@@ -3,3 +3,4 @@ pub mod Digits
 pub mod Names
 pub mod Numbers
 pub mod Factors
+pub mod Pieces

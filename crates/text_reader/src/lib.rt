@@ -1,14 +1,17 @@
 //! Readers of the small texts inside a report's lines.
 #![tactic(auto)]
 
+mod element;
 mod family;
 mod fraction;
 mod monomial;
 mod name;
 mod number;
+mod piece;
 mod splitting;
 mod word;
 
+pub use element::read_element;
 pub use family::read_family;
 pub use fraction::read_fraction;
 pub use monomial::read_monomial;
