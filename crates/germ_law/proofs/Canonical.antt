@@ -17,10 +17,11 @@ use Rattle.poly_law.proofs.Sums
 use Rattle.poly_law.proofs.Order
 use Rattle.poly_law.proofs.OneList.{one_list}
 use Rattle.mono_exp.specs.Exponents.{monomials_of, monomials_below, numbers_below}
-use Rattle.mono_exp.proofs.Lists.{Each, each-weaker, each-flat_map, map-map, map-same, numbers_are_below, sum-cons}
+use Rattle.mono_exp.proofs.Lists.{Each, each-weaker, each-flat_map, map-map, map-same, numbers_are_below}
 use Rattle.mono_exp.proofs.Counting.{count_below, count-le, place, place_below, place_at_least, place-injective, places, IsOf, monomials_are_of}
 use Rattle.mono_exp.proofs.NumberLemmas.{exponents-take}
 use Rattle.jet_law.specs.Canonical.{monomial_in, jet}
+use Rattle.jet_law.proofs.TermLemmas.{sum-is-nat_sum_to}
 
 -- ---- numbers that rise
 
@@ -69,14 +70,6 @@ all_places n k =
     map-map (λ a. place a.entries) (monomial_in n) (monomials_below n (suc k))
     ∙ map-same (λ m. length m ≡ n) (λ e. place (monomial_in n e).entries) place (λ e h. ap place (own_entries n e h)) (monomials_below n (suc k)) (all_long n (suc k))
     ∙ places n (suc k)
-
-nat_sum_to-front : (n : ℕ) (w : ℕ → ℕ) → nat_sum_to (suc n) w ≡ w 0 + nat_sum_to n (λ i. w (suc i))
-nat_sum_to-front zero w = let e : 0 + w 0 ≡ w 0 + 0 = omega arith in e
-nat_sum_to-front (suc n) w = let e = nat_sum_to-front n w in let z : nat_sum_to (suc n) w + w (suc n) ≡ w 0 + (nat_sum_to n (λ i. w (suc i)) + w (suc n)) = omega arith in z
-
-sum-is-nat_sum_to : (xs : List ℕ) → nat_sum_to (length xs) (λ i. get_or xs i 0) ≡ sum xs
-sum-is-nat_sum_to [] = refl
-sum-is-nat_sum_to (x ∷ xs) = nat_sum_to-front (length xs) (λ i. get_or (x ∷ xs) i 0) ∙ ap (λ z. x + z) (sum-is-nat_sum_to xs) ∙ sym (sum-cons x xs)
 
 -- the degree of a monomial is the sum of its exponents
 pub degree-entries : (n : ℕ) (m : ExpList n) → degree (exps n) m ≡ sum m.entries

@@ -16,11 +16,13 @@ use Rattle.jet_law.specs.Terms.{exp_of, poly_of}
 pub at-exp_of : (n : ℕ) (a : Exp) (i : ℕ) → i < n → (exps n).at (exp_of n a) i ≡ get_or a.e i 0
 at-exp_of n a i h = (exps_are n).at_make (λ i. get_or a.e i 0) i h
 
+-- w₀ + (w₁ + .. + wₙ), the first number taken apart
 nat_sum_to-front : (n : ℕ) (w : ℕ → ℕ) → nat_sum_to (suc n) w ≡ w 0 + nat_sum_to n (λ i. w (suc i))
 nat_sum_to-front zero w = let e : 0 + w 0 ≡ w 0 + 0 = omega arith in e
 nat_sum_to-front (suc n) w = let e = nat_sum_to-front n w in let z : nat_sum_to (suc n) w + w (suc n) ≡ w 0 + (nat_sum_to n (λ i. w (suc i)) + w (suc n)) = omega arith in z
 
-sum-is-nat_sum_to : (xs : List ℕ) → nat_sum_to (length xs) (λ i. get_or xs i 0) ≡ sum xs
+-- the sum of a list by its places
+pub sum-is-nat_sum_to : (xs : List ℕ) → nat_sum_to (length xs) (λ i. get_or xs i 0) ≡ sum xs
 sum-is-nat_sum_to [] = refl
 sum-is-nat_sum_to (x ∷ xs) = nat_sum_to-front (length xs) (λ i. get_or (x ∷ xs) i 0) ∙ ap (λ z. x + z) (sum-is-nat_sum_to xs) ∙ sym (sum-cons x xs)
 

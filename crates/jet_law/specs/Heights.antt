@@ -24,10 +24,6 @@ module _ {E V : Type 0} (x : Exps E) (s : Scalars V) where
   abbrev pub coefficient_heights : Terms E V → List ℕ
   coefficient_heights f = map (λ t. s.height t.1) f
 
-  -- the heights of collecting the terms of f up to degree k: of its coefficients, and of their sums at each monomial
-  unfoldable pub collect_heights : ℕ → Terms E V → List ℕ
-  collect_heights k f = coefficient_heights f ++ sums_heights (cut x s.ops k f)
-
   -- the heights of the sum f + g up to degree k: of the coefficients, and of their sums at each monomial
   unfoldable pub sum_heights : ℕ → Terms E V → Terms E V → List ℕ
   sum_heights k f g = coefficient_heights f ++ coefficient_heights g ++ sums_heights (cut x s.ops k (f ++ g))

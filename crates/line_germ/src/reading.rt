@@ -173,4 +173,54 @@ mod tests {
         }
         Ok(())
     }
+
+    // Each piece as often as its number says.
+    fn repeated(alloc: Global, pieces: &[(&[u8], usize)]) -> Result<Vec<u8>, Fail> {
+        let mut line = Vec::new(alloc);
+        for (piece, count) in pieces {
+            for _ in 0..*count {
+                line.extend_from_slice(piece)?;
+            }
+        }
+        Ok(line)
+    }
+
+    // Groups within groups up to the 64th are read, and the longest line. The lengths are counted by hand.
+    #[test]
+    fn long_lines(rt: HostRuntime) -> Result<(), Fail> {
+        let alloc = rt.alloc();
+        let square: &[u8] = b"x^2";
+        let more: &[u8] = b"+x^2";
+        let cases: [([(&[u8], usize); 4], [u32; 4]); 5] = [
+            (
+                [(b"(", 64), (b"x", 1), (b")", 64), (b"^2", 1)],
+                [0, 1, 16, 1],
+            ),
+            (
+                [(b"(", 65), (b"x", 1), (b")", 65), (b"^2", 1)],
+                [1, 65, 0, 0],
+            ),
+            (
+                [(b"(", 64), (b"x", 1), (b")", 63), (b"^2", 1)],
+                [1, 131, 1, 0],
+            ),
+            (
+                [(square, 1), (more, 16_383), (b" ", 1), (b"", 0)],
+                [0, 1, 16, 1],
+            ),
+            (
+                [(square, 1), (more, 16_383), (b"+", 1), (b"", 0)],
+                [1, 65_537, 1, 0],
+            ),
+        ];
+        for (pieces, wanted) in cases {
+            let line = repeated(alloc, &pieces)?;
+            assert!(rt; line.len() <= 65_536);
+            match &read_line(alloc, &line, 16) {
+                Ok(read) => assert_eq!(rt; kind_of(read), wanted, "{pieces:?}"),
+                Err(_) => assert!(rt; false, "out of memory"),
+            }
+        }
+        Ok(())
+    }
 }
