@@ -1,74 +1,274 @@
--- Which lines are answered as too long, and which as unbuilt.
-use Rattle.cert_text.specs.declared.report.Answer.TheVariants as answers
+-- Which lines get which answer: two kinds of answers exclude each other, since bytes spell one line.
+use Rattle.std.proofs.Common.{◌≡◌, ℕ, ◌+◌, ◌<◌, ◌≤◌, ◌⊎◌, inl, inr, Bool, true, false, ◌&&◌, List, [], ◌∷◌, ◌++◌, length, IsTrue, refl, sym, ap, ap₂, subst, ◌∙◌, arith, leb-true, append_assoc}
+use Rattle.std.specs.Prelude.{nat_lt, nat_le, slice_index_or}
+use Rattle.std.specs.List.{list_all}
+use Rattle.std.proofs.lemmas.List.Folds.{list_all-append}
+use Rattle.ring_theory.specs.Rational.{rational_ops}
+use Rattle.line_syntax.specs.Syntax.{Word, Line, Token, number, number_of, names_of, tokens_of, token_text}
+use Rattle.line_syntax.specs.Grammar.{IsSpaced, Spells, IsSyntaxError, IsLiteralError, has_small_literals, is_small_token, literal_limit}
+use Rattle.line_syntax.proofs.Bools.{and_left, and_right}
+use Rattle.line_syntax.proofs.OneLine.{one_line}
+use Rattle.line_reader.proofs.Held.{spaced_append, one_spaced}
+use Rattle.germ_law.specs.Germ.{IsCritical, IsFirstLinear}
+use Rattle.poly_text.specs.declared.name.Name.{Name}
+use Rattle.poly_text.specs.declared.what.What.{What}
+use Rattle.poly_text.specs.Polynomials.{name_text}
 use Rattle.cert_text.specs.declared.report.Answer.{Answer}
+use Rattle.cert_text.specs.declared.report.Answer.TheVariants as answers
 use Rattle.cert_text.specs.declared.report.Limit as limit_type
 use Rattle.cert_text.specs.declared.report.Named as named_type
-use Rattle.cert_text.specs.declared.report.Report.TheVariants as reports
+use Rattle.cert_text.specs.declared.report.Phase.TheVariants as phases
+use Rattle.cert_text.specs.declared.report.Phase.{Phase}
 use Rattle.cert_text.specs.declared.report.Report.{Report}
-use Rattle.one_variable.specs.Answers.{is_term, leading_answer, limit_of, named_of, report_of, small_answer}
-use Rattle.one_variable.specs.Laws.{IsTooLongExactly, IsUnbuiltExactly}
-use Rattle.poly_text.specs.declared.name.Name.{Name}
-use Rattle.small_line.specs.Small.{small_of}
-use Rattle.small_line.specs.declared.monomial.Monomial.{Monomial}
-use Rattle.small_line.specs.declared.sum.SmallLine.{SmallLine}
-use Rattle.std.proofs.Common.{◌≡◌, ℕ, Bool, true, false, cond, eqb, leb, ltb, List, length, Option, Some, None, refl, sym, ap}
-use Rattle.std.proofs.lemmas.Bool.{ltb-true, ltb-false, lt-ltb, le-ltb}
-use Rattle.std.specs.Prelude.{find}
+use Rattle.cert_text.specs.declared.report.Report.TheVariants as reports
+use Rattle.report_law.specs.Items.{IsSyntaxRefusal, IsLiteralRefusal, IsNotCritical}
+use Rattle.report_law.specs.Right.{IsManyVariables, IsRead, IsRightAnswer}
+use Rattle.line_germ.specs.Answers.{what_at}
+use Rattle.one_variable_law.proofs.Right.{not_many}
+use Rattle.one_variable_law.specs.Plan.{IsAnswer, IsOneVariable, IsPlannedAnswer}
+use Rattle.one_variable.specs.Laws.{IsTooLongExactly, IsSyntaxExactly, IsLiteralAnswer, IsLiteralExactly, IsNotCriticalAnswer, IsNotCriticalExactly, IsUnbuiltExactly, IsDecided, IsDecidedInOneVariable, named, undecided, high}
 
--- a report that is chosen by a test
-abbrev chosen : Bool → ℕ → List ℕ → Answer → Report
-chosen t n line a = cond t (reports.Long n) (reports.Line line a)
+-- ---- the report of a line
 
-long_was : (t : Bool) (m n : ℕ) (line : List ℕ) (a : Answer) → chosen t m line a ≡ reports.Long n → (t ≡ true) × (n ≡ m)
-long_was true m n line a e = (refl, cc)
-long_was false m n line a e = absurd cc
+-- a report that answers a line
+data Form (limit : ℕ) (line : List ℕ) (r : Report) : Type 0 where
+  long : 65536 < length line → r ≡ reports.Long (length line) → Form limit line r
+  short : (a : Answer) → length line ≤ 65536 → r ≡ reports.Line line a → IsRightAnswer IsManyVariables line limit a → IsPlannedAnswer limit line a → Form limit line r
 
-long_now : (t : Bool) (m n : ℕ) (line : List ℕ) (a : Answer) → t ≡ true → n ≡ m → chosen t m line a ≡ reports.Long n
-long_now true m n line a is e = ap (λ (k : ℕ). reports.Long k) (sym e)
-long_now false m n line a is e = absurd cc
+form_of : (limit : ℕ) (line : List ℕ) (r : Report) → IsAnswer limit line r → Form limit line r
+form_of limit line (reports.Long n) h = long h.right.truthful.1 (ap (λ k. reports.Long k) h.right.truthful.0)
+form_of limit line (reports.Line held a) h = short a h.right.truthful.0 (ap (λ b. reports.Line b a) h.right.truthful.1) h.right.truthful.2 h.planned
 
 pub too_long : IsTooLongExactly
-unfolding report_of
-too_long line n = (
-  (λ e. let h = long_was (ltb 65536 (length line)) (length line) n line (small_answer (small_of line)) e in (ltb-true _ _ h.0, h.1)),
-  (λ h. long_now (ltb 65536 (length line)) (length line) n line (small_answer (small_of line)) (lt-ltb _ _ h.0) h.1),
-)
+too_long limit line r h n = (λ e. was (form_of limit line r h) e, λ k. now (form_of limit line r h) k)
+  where
+    was : Form limit line r → r ≡ reports.Long n → (65536 < length line) × (n ≡ length line)
+    was (long above is) e = (above, cc)
+    was (short a low is right planned) e = absurd cc
 
-line_was : (t : Bool) (m : ℕ) (line bytes : List ℕ) (a b : Answer) → chosen t m line a ≡ reports.Line bytes b → (t ≡ false) × (a ≡ b) × (bytes ≡ line)
-line_was true m line bytes a b e = absurd cc
-line_was false m line bytes a b e = (refl, cc, cc)
+    now : Form limit line r → (65536 < length line) × (n ≡ length line) → r ≡ reports.Long n
+    now (long above is) k = is ∙ ap (λ j. reports.Long j) (sym k.1)
+    now (short a low is right planned) k = let above = k.0 in absurd (omega arith)
 
-line_now : (t : Bool) (m : ℕ) (line bytes : List ℕ) (a b : Answer) → t ≡ false → a ≡ b → bytes ≡ line → chosen t m line a ≡ reports.Line bytes b
-line_now true m line bytes a b is e h = absurd cc
-line_now false m line bytes a b is e h = cc
+-- ---- the kinds of answers to a line of at most 65,536 bytes
 
--- an answer by the least power is not `unbuilt`
-built : (first small : Bool) (name : Name) (named : named_type.Named) (limit : limit_type.Limit)
-    → cond first (answers.NotCritical name) (cond small (answers.Named named) (answers.Limit limit)) ≡ answers.Unbuilt → ⊥
-built true small name named limit e = absurd cc
-built false true name named limit e = absurd cc
-built false false name named limit e = absurd cc
+-- a name, a limit, or `range`
+data Decided (a : Answer) : Type 0 where
+  by_name : (n : named_type.Named) → a ≡ answers.Named n → Decided a
+  by_limit : (n : limit_type.Limit) → a ≡ answers.Limit n → Decided a
+  by_range : (phase : Phase) → a ≡ answers.Range phase → Decided a
 
-leads : (name : Name) (leading : Option Monomial) → leading_answer name leading ≡ answers.Unbuilt → ⊥
-leads name None e = absurd cc
-leads name (Some m) e = built (eqb m.exponent 1) (leb m.exponent 12) name (named_of name m.exponent m.coefficient) (limit_of name) e
+-- an answer, and what is true of the line where it is right
+data Kind (line : List ℕ) (a : Answer) : Type 0 where
+  no_line : (column : ℕ) (what : What) → a ≡ answers.Syntax column what → IsSyntaxRefusal line column what → Kind line a
+  large : (column : ℕ) → a ≡ answers.Literal column → IsLiteralRefusal line column → Kind line a
+  linear : (name : Name) → a ≡ answers.NotCritical name → IsNotCritical line (name_text name) → Kind line a
+  not_read : a ≡ answers.Range phases.Line → IsRead line → Kind line a
+  many : a ≡ answers.Unbuilt → IsManyVariables line → Kind line a
+  one : (l : Line) → IsOneVariable line l → Decided a → Kind line a
 
--- only a line outside of the small grammar is answered `unbuilt`
-outside : (small : Option SmallLine) → small_answer small ≡ answers.Unbuilt → small ≡ None
-unfolding small_answer
-outside None e = refl
-outside (Some s) e = absurd (leads s.name (find is_term s.terms) e)
+kind_of : (limit : ℕ) (line : List ℕ) (a : Answer) → IsRightAnswer IsManyVariables line limit a → IsPlannedAnswer limit line a → Kind line a
+kind_of limit line (answers.Syntax column what) h p = no_line column what refl h
+kind_of limit line (answers.Literal column) h p = large column refl h
+kind_of limit line (answers.NotCritical name) h p = linear name refl h
+kind_of limit line (answers.Field algebra) h p = absurd p
+kind_of limit line answers.Unbuilt h p = many refl h
+kind_of limit line (answers.Named n) h p = one p.line p.one_variable (by_name n refl)
+kind_of limit line (answers.Outside n) h p = absurd p
+kind_of limit line (answers.Limit n) h p = one p.line p.one_variable (by_limit n refl)
+kind_of limit line (answers.Unresolved n) h p = absurd p
+kind_of limit line (answers.Range phases.Line) h p = not_read refl h.read
+kind_of limit line (answers.Range phases.Mather) h p = one p.line p.one_variable (by_range phases.Mather refl)
+kind_of limit line (answers.Range phases.Milnor) h p = one p.line p.one_variable (by_range phases.Milnor refl)
+kind_of limit line (answers.Range phases.Hessian) h p = absurd p
+kind_of limit line (answers.Range phases.Split) h p = absurd p
+kind_of limit line (answers.Range phases.Shape) h p = absurd p
+kind_of limit line (answers.Range phases.Kill) h p = absurd p
+kind_of limit line (answers.Range phases.Finish) h p = absurd p
 
-left_out : (small : Option SmallLine) → small ≡ None → small_answer small ≡ answers.Unbuilt
-unfolding small_answer
-left_out None e = refl
-left_out (Some s) e = absurd cc
+-- the report of a line of at most 65,536 bytes, by its kind
+record Short (line : List ℕ) (r : Report) : Type 0 where
+  pub answer : Answer
+  pub report_is : r ≡ reports.Line line answer
+  pub kind : Kind line answer
+
+short_of : (limit : ℕ) (line : List ℕ) (r : Report) → length line ≤ 65536 → IsAnswer limit line r → Short line r
+short_of limit line r few h = by_form (form_of limit line r h)
+  where
+    by_form : Form limit line r → Short line r
+    by_form (long above is) = absurd (omega arith)
+    by_form (short a low is right planned) = record { answer = a; report_is = is; kind = kind_of limit line a right planned }
+
+-- ---- what excludes what
+
+record Spelled (line : List ℕ) : Type 0 where
+  pub line_is : Line
+  pub spells : Spells line line_is
+  pub not_small : IsTrue (has_small_literals line_is) → ⊥
+
+not_all : (before after : List Token) (d : Word) → literal_limit < number_of d → list_all is_small_token (before ++ number d ∷ after) ≡ true → ⊥
+not_all before after d above h =
+    let both = sym (list_all-append is_small_token before (number d ∷ after)) ∙ h in
+    let here : nat_le (number_of d) literal_limit ≡ true = and_left (is_small_token (number d)) (list_all is_small_token after) (and_right (list_all is_small_token before) (list_all is_small_token (number d ∷ after)) both) in
+    let low : number_of d ≤ literal_limit = leb-true (number_of d) literal_limit here in
+    omega arith
+
+-- a line with a number that is too large is in the grammar
+large_spelled : (line : List ℕ) (column : ℕ) → IsLiteralRefusal line column → Spelled line
+large_spelled line column h =
+    let e : IsLiteralError line h.place = h.error in
+    let number_spaced = spaced_append (number e.digits ∷ []) e.after e.digits e.rest (one_spaced (number e.digits) e.digits refl) e.rest_spaced in
+    let whole = spaced_append e.before (number e.digits ∷ e.after) e.front (e.digits ++ e.rest) e.front_spaced number_spaced in
+    record {
+      line_is = e.line;
+      spells = record {
+        is_line = e.is_line;
+        spaced = subst (λ b. IsSpaced (tokens_of e.line) b) (sym (e.bytes_are ∙ append_assoc e.front e.digits e.rest)) (subst (λ ts. IsSpaced ts (e.front ++ (e.digits ++ e.rest))) (sym e.tokens) whole);
+      };
+      not_small = λ small. not_all e.before e.after e.digits e.large (ap (list_all is_small_token) (sym e.tokens) ∙ small);
+    }
+
+small_excludes : (line : List ℕ) (column : ℕ) (l : Line) → Spells line l → IsTrue (has_small_literals l) → IsLiteralRefusal line column → ⊥
+small_excludes line column l spells small h =
+    let s = large_spelled line column h in
+    s.not_small (subst (λ m. IsTrue (has_small_literals m)) (one_line line l s.line_is spells s.spells) small)
+
+grammar_excludes : (line : List ℕ) (column : ℕ) (what : What) (l : Line) → Spells line l → IsSyntaxRefusal line column what → ⊥
+grammar_excludes line column what l spells h = h.error.outside (l, spells)
+
+-- a critical line has no linear coefficient
+critical_excludes : (line : List ℕ) (l : Line) (w : Word) → IsCritical line l → IsNotCritical line w → ⊥
+critical_excludes line l w critical h =
+    let same : l ≡ h.line = one_line line l h.line critical.spells h.spells in
+    let there : IsCritical line h.line = subst (IsCritical line) same critical in
+    h.first.linear (there.critical h.place h.first.within)
+
+-- the longest front is one
+one_front : (line : List ℕ) (n m : ℕ) → IsSyntaxError line n → IsSyntaxError line m → n ≡ m
+one_front line n m h k = elim (below_or line n m) [
+  | inl below ↦ absurd (h.longest m below k.within k.viable)
+  | inr (inl above) ↦ absurd (k.longest n above h.within h.viable)
+  | inr (inr same) ↦ same
+]
+  where
+    below_or : (line : List ℕ) (n m : ℕ) → (n < m) ⊎ ((m < n) ⊎ (n ≡ m))
+    below_or line n m = grind arith
+
+-- the first linear coefficient that is not 0 is one
+one_place : (l : Line) (i j : ℕ) → IsFirstLinear l i → IsFirstLinear l j → i ≡ j
+one_place l i j h k = elim (below_or i j) [
+  | inl below ↦ absurd (h.linear (k.first i below))
+  | inr (inl above) ↦ absurd (k.linear (h.first j above))
+  | inr (inr same) ↦ same
+]
+  where
+    below_or : (i j : ℕ) → (i < j) ⊎ ((j < i) ⊎ (i ≡ j))
+    below_or i j = grind arith
+
+one_variable_name : (line : List ℕ) (v w : Word) → IsNotCritical line v → IsNotCritical line w → v ≡ w
+one_variable_name line v w h k =
+    let same : h.line ≡ k.line = one_line line h.line k.line h.spells k.spells in
+    let place : h.place ≡ k.place = one_place k.line h.place k.place (subst (λ l. IsFirstLinear l h.place) same h.first) k.first in
+    h.variable_is ∙ ap (λ l. slice_index_or (names_of l) h.place []) same ∙ ap (λ i. slice_index_or (names_of k.line) i []) place ∙ sym k.variable_is
+
+-- ---- the laws
+
+pub syntax : IsSyntaxExactly
+syntax limit line r h column what = (λ e. was (form_of limit line r h) e, λ k. now k.1 (short_of limit line r k.0 h))
+  where
+    was : Form limit line r → r ≡ reports.Line line (answers.Syntax column what) → (length line ≤ 65536) × IsSyntaxRefusal line column what
+    was (long above is) e = absurd cc
+    was (short a low is right planned) e =
+        let same : a ≡ answers.Syntax column what = cc in
+        (low, subst (IsRightAnswer IsManyVariables line limit) same right)
+
+    now : IsSyntaxRefusal line column what → Short line r → r ≡ reports.Line line (answers.Syntax column what)
+    now k s = by_kind s.kind
+      where
+        by_kind : Kind line s.answer → r ≡ reports.Line line (answers.Syntax column what)
+        by_kind (no_line c w is refusal) =
+            let front = one_front line refusal.front_length k.front_length refusal.error k.error in
+            let columns : c ≡ column = refusal.column_is ∙ ap (λ n. n + 1) front ∙ sym k.column_is in
+            let words : w ≡ what = refusal.what_is ∙ ap (what_at line) front ∙ sym k.what_is in
+            s.report_is ∙ ap (reports.Line line) (is ∙ ap₂ answers.Syntax columns words)
+        by_kind (large c is refusal) = let spelled = large_spelled line c refusal in absurd (grammar_excludes line column what spelled.line_is spelled.spells k)
+        by_kind (linear name is refusal) = absurd (grammar_excludes line column what refusal.line refusal.spells k)
+        by_kind (not_read is read) = absurd (grammar_excludes line column what read.line read.spells k)
+        by_kind (many is m) = absurd (grammar_excludes line column what m.line m.critical.spells k)
+        by_kind (one l o d) = absurd (grammar_excludes line column what l o.critical.spells k)
+
+pub literal : IsLiteralExactly
+literal limit line r h = (λ k. (was (form_of limit line r h) k, (k.column, k.refusal)), λ k. now k.1.0 k.1.1 (short_of limit line r k.0 h))
+  where
+    was : Form limit line r → IsLiteralAnswer line r → length line ≤ 65536
+    was (long above is) k = let e = k.report_is in absurd cc
+    was (short a low is right planned) k = low
+
+    now : (column : ℕ) → IsLiteralRefusal line column → Short line r → IsLiteralAnswer line r
+    now column k s = by_kind s.kind
+      where
+        by_kind : Kind line s.answer → IsLiteralAnswer line r
+        by_kind (no_line c w is refusal) = let spelled = large_spelled line column k in absurd (grammar_excludes line c w spelled.line_is spelled.spells refusal)
+        by_kind (large c is refusal) = record { column = c; report_is = s.report_is ∙ ap (reports.Line line) is; refusal = refusal }
+        by_kind (linear name is refusal) = absurd (small_excludes line column refusal.line refusal.spells refusal.small k)
+        by_kind (not_read is read) = absurd (small_excludes line column read.line read.spells read.small k)
+        by_kind (many is m) = absurd (small_excludes line column m.line m.critical.spells m.critical.small k)
+        by_kind (one l o d) = absurd (small_excludes line column l o.critical.spells o.critical.small k)
+
+pub not_critical : IsNotCriticalExactly
+not_critical = record { only = λ limit line r h w k. was limit line r w (form_of limit line r h) k; answered = λ limit line r h w few k. now line r w k (short_of limit line r few h) }
+  where
+    was : (limit : ℕ) (line : List ℕ) (r : Report) (w : Word) → Form limit line r → IsNotCriticalAnswer line w r → IsNotCritical line w
+    was limit line r w (long above is) k = let e = k.report_is in absurd cc
+    was limit line r w (short a low is right planned) k =
+        let e = k.report_is in
+        let same : a ≡ answers.NotCritical k.name = cc in
+        subst (IsNotCritical line) k.name_is (subst (IsRightAnswer IsManyVariables line limit) same right)
+
+    now : (line : List ℕ) (r : Report) (w : Word) → IsNotCritical line w → Short line r → IsNotCriticalAnswer line w r ⊎ (r ≡ reports.Line line (answers.Range phases.Line))
+    now line r w k s = by_kind s.kind
+      where
+        by_kind : Kind line s.answer → IsNotCriticalAnswer line w r ⊎ (r ≡ reports.Line line (answers.Range phases.Line))
+        by_kind (no_line c v is refusal) = absurd (grammar_excludes line c v k.line k.spells refusal)
+        by_kind (large c is refusal) = absurd (small_excludes line c k.line k.spells k.small refusal)
+        by_kind (linear name is refusal) = inl (record { name = name; name_is = one_variable_name line (name_text name) w refusal k; report_is = s.report_is ∙ ap (reports.Line line) is })
+        by_kind (not_read is read) = inr (s.report_is ∙ ap (reports.Line line) is)
+        by_kind (many is m) = absurd (critical_excludes line m.line w m.critical k)
+        by_kind (one l o d) = absurd (critical_excludes line l w o.critical k)
 
 pub unbuilt : IsUnbuiltExactly
-unfolding report_of
-unbuilt line bytes = (
-  (λ e.
-      let h = line_was (ltb 65536 (length line)) (length line) line bytes (small_answer (small_of line)) answers.Unbuilt e in
-      (ltb-false _ _ h.0, outside (small_of line) h.1, h.2)),
-  (λ h. line_now (ltb 65536 (length line)) (length line) line bytes (small_answer (small_of line)) answers.Unbuilt (le-ltb _ _ h.0) (left_out (small_of line) h.1) h.2),
-)
+unbuilt = record { only = λ limit line r h e. was limit line r (form_of limit line r h) e; answered = λ limit line r h m. now line r m (short_of limit line r m.critical.short h) }
+  where
+    was : (limit : ℕ) (line : List ℕ) (r : Report) → Form limit line r → r ≡ reports.Line line answers.Unbuilt → IsManyVariables line
+    was limit line r (long above is) e = absurd cc
+    was limit line r (short a low is right planned) e = let same : a ≡ answers.Unbuilt = cc in subst (IsRightAnswer IsManyVariables line limit) same right
+
+    now : (line : List ℕ) (r : Report) → IsManyVariables line → Short line r → (r ≡ reports.Line line answers.Unbuilt) ⊎ (r ≡ reports.Line line (answers.Range phases.Line))
+    now line r m s = by_kind s.kind
+      where
+        by_kind : Kind line s.answer → (r ≡ reports.Line line answers.Unbuilt) ⊎ (r ≡ reports.Line line (answers.Range phases.Line))
+        by_kind (no_line c v is refusal) = absurd (grammar_excludes line c v m.line m.critical.spells refusal)
+        by_kind (large c is refusal) = absurd (small_excludes line c m.line m.critical.spells m.critical.small refusal)
+        by_kind (linear name is refusal) = absurd (critical_excludes line m.line (name_text name) m.critical refusal)
+        by_kind (not_read is read) = inr (s.report_is ∙ ap (reports.Line line) is)
+        by_kind (many is n) = inl (s.report_is ∙ ap (reports.Line line) is)
+        by_kind (one l o d) = absurd (not_many line l o m)
+
+pub decided : IsDecidedInOneVariable
+decided limit line r h l o = by_kind s.kind
+  where
+    s : Short line r
+    s = short_of limit line r o.critical.short h
+
+    by_decided : Decided s.answer → IsDecided line r
+    by_decided (by_name n is) = named n (s.report_is ∙ ap (reports.Line line) is)
+    by_decided (by_limit n is) = undecided n (s.report_is ∙ ap (reports.Line line) is)
+    by_decided (by_range phase is) = high phase (s.report_is ∙ ap (reports.Line line) is)
+
+    by_kind : Kind line s.answer → IsDecided line r
+    by_kind (no_line c v is refusal) = absurd (grammar_excludes line c v l o.critical.spells refusal)
+    by_kind (large c is refusal) = absurd (small_excludes line c l o.critical.spells o.critical.small refusal)
+    by_kind (linear name is refusal) = absurd (critical_excludes line l (name_text name) o.critical refusal)
+    by_kind (not_read is read) = high phases.Line (s.report_is ∙ ap (reports.Line line) is)
+    by_kind (many is m) = absurd (not_many line l o m)
+    by_kind (one l' o' d) = by_decided d

@@ -1,15 +1,67 @@
--- Which lines are answered as too long, and which as unbuilt.
+-- Which lines get which answer.
 use Rattle.cert_text.specs.declared.report.Answer.TheVariants as answers
+use Rattle.cert_text.specs.declared.report.Limit as limit_type
+use Rattle.cert_text.specs.declared.report.Named as named_type
+use Rattle.cert_text.specs.declared.report.Phase.TheVariants as phases
+use Rattle.cert_text.specs.declared.report.Phase.{Phase}
 use Rattle.cert_text.specs.declared.report.Report.TheVariants as reports
-use Rattle.one_variable.specs.Answers.{report_of}
-use Rattle.small_line.specs.Small.{small_of}
-use Rattle.std.specs.Prelude.{◌≡◌, ◌↔◌, ◌<◌, ◌≤◌, ℕ, List, length, None}
+use Rattle.cert_text.specs.declared.report.Report.{Report}
+use Rattle.line_syntax.specs.Syntax.{Line, Word}
+use Rattle.one_variable_law.specs.Plan.{IsAnswer, IsOneVariable}
+use Rattle.poly_text.specs.declared.name.Name.{Name}
+use Rattle.poly_text.specs.declared.what.What.{What}
+use Rattle.poly_text.specs.Polynomials.{name_text}
+use Rattle.report_law.specs.Items.{IsSyntaxRefusal, IsLiteralRefusal, IsNotCritical}
+use Rattle.report_law.specs.Right.{IsManyVariables}
+use Rattle.std.specs.Prelude.{◌≡◌, ◌↔◌, ◌⊎◌, ℕ, ◌<◌, ◌≤◌, List, length}
 
--- the report of a line is the too-long one exactly where it has more than 65,536 bytes, with their number
+-- the report that answers a line is the too-long one exactly where the line has more than 65,536 bytes, with their number
 abbrev pub IsTooLongExactly : Type 0
-IsTooLongExactly = (line : List ℕ) (n : ℕ) → (report_of line ≡ reports.Long n) ↔ ((65536 < length line) × (n ≡ length line))
+IsTooLongExactly = (limit : ℕ) (line : List ℕ) (r : Report) → IsAnswer limit line r → (n : ℕ) → (r ≡ reports.Long n) ↔ ((65536 < length line) × (n ≡ length line))
 
--- a line is answered unbuilt exactly where it has at most 65,536 bytes and is not in the small grammar
-abbrev pub IsUnbuiltExactly : Type 0
-IsUnbuiltExactly =
-    (line bytes : List ℕ) → (report_of line ≡ reports.Line bytes answers.Unbuilt) ↔ ((length line ≤ 65536) × (small_of line ≡ None) × (bytes ≡ line))
+-- a line of at most 65,536 bytes is answered `syntax` with this column and word exactly where the grammar refuses it so
+abbrev pub IsSyntaxExactly : Type 0
+IsSyntaxExactly =
+    (limit : ℕ) (line : List ℕ) (r : Report) → IsAnswer limit line r → (column : ℕ) (what : What)
+    → (r ≡ reports.Line line (answers.Syntax column what)) ↔ ((length line ≤ 65536) × IsSyntaxRefusal line column what)
+
+-- the report is `literal`, at a column where the first number of the line that is too large begins
+pub record IsLiteralAnswer (line : List ℕ) (r : Report) : Type 0 where
+  pub column : ℕ
+  pub report_is : r ≡ reports.Line line (answers.Literal column)
+  pub refusal : IsLiteralRefusal line column
+
+-- a line of at most 65,536 bytes is answered `literal` exactly where it is in the grammar and has a number that is too large
+abbrev pub IsLiteralExactly : Type 0
+IsLiteralExactly =
+    (limit : ℕ) (line : List ℕ) (r : Report) → IsAnswer limit line r → IsLiteralAnswer line r ↔ ((length line ≤ 65536) × ((column : ℕ) × IsLiteralRefusal line column))
+
+-- the report names this variable as not critical
+pub record IsNotCriticalAnswer (line : List ℕ) (variable : Word) (r : Report) : Type 0 where
+  pub name : Name
+  pub name_is : name_text name ≡ variable
+  pub report_is : r ≡ reports.Line line (answers.NotCritical name)
+
+-- a variable is answered as not critical only where its linear coefficient is the first that is not 0; and such a line is answered so, or
+-- `range` in the phase of reading
+pub record IsNotCriticalExactly : Type 0 where
+  pub only : (limit : ℕ) (line : List ℕ) (r : Report) → IsAnswer limit line r → (variable : Word) → IsNotCriticalAnswer line variable r → IsNotCritical line variable
+  pub answered : (limit : ℕ) (line : List ℕ) (r : Report) → IsAnswer limit line r → (variable : Word) → length line ≤ 65536 → IsNotCritical line variable
+      → IsNotCriticalAnswer line variable r ⊎ (r ≡ reports.Line line (answers.Range phases.Line))
+
+-- a line is answered `unbuilt` only where it is critical in more than one variable; and such a line is answered so, or `range` in the
+-- phase of reading
+pub record IsUnbuiltExactly : Type 0 where
+  pub only : (limit : ℕ) (line : List ℕ) (r : Report) → IsAnswer limit line r → r ≡ reports.Line line answers.Unbuilt → IsManyVariables line
+  pub answered : (limit : ℕ) (line : List ℕ) (r : Report) → IsAnswer limit line r → IsManyVariables line
+      → (r ≡ reports.Line line answers.Unbuilt) ⊎ (r ≡ reports.Line line (answers.Range phases.Line))
+
+-- the report is a name, a limit, or `range`
+pub data IsDecided (line : List ℕ) (r : Report) : Type 0 where
+  named : (n : named_type.Named) → r ≡ reports.Line line (answers.Named n) → IsDecided line r
+  undecided : (n : limit_type.Limit) → r ≡ reports.Line line (answers.Limit n) → IsDecided line r
+  high : (phase : Phase) → r ≡ reports.Line line (answers.Range phase) → IsDecided line r
+
+-- a critical line in one variable is named, or answered `limit` or `range`
+abbrev pub IsDecidedInOneVariable : Type 0
+IsDecidedInOneVariable = (limit : ℕ) (line : List ℕ) (r : Report) → IsAnswer limit line r → (l : Line) → IsOneVariable line l → IsDecided line r

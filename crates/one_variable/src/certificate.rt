@@ -1,35 +1,51 @@
 //! The rows of a certificate in one variable: Mather's row, the basis and the table.
-ghost use Rattle.std.specs.Prelude.{◌≡◌, ◌<◌, ◌≤◌, ◌≢◌, ◌-◌, IfOk, pos};
-ghost use Rattle.one_variable.specs.Answers.{mather_of, power, listed, unit_value, multiplier_of, multipliers_of, row_of, row_count, quotient_of};
+ghost use Rattle.one_variable_law.specs.Answers.{IsNameable, AreRowsOf, IsQuotientOf};
+ghost use Rattle.one_variable_law.specs.Plan.{IsDerivativeHigh};
+ghost use Rattle.one_variable_law.specs.Reports.{power};
+ghost use Rattle.one_variable_law.specs.Rows.{mather_of, listed, unit_value, multiplier_of, multipliers_of, row_of, row_count, quotient_of};
+ghost use Rattle.ring_law.specs.Fraction.{frac_value};
+ghost use Rattle.ring_law.specs.Refusals.{OnFault};
+ghost use Rattle.std.specs.Prelude.{◌≡◌, ◌<◌, ◌≤◌, ◌-◌, IfOk};
 
 use crate::piece::{
-    one, power_of_u1, rational_element, reciprocal_of, single_term, whole_number, zero_polynomial,
+    derivative_inverse, one, power_of_u1, rational_element, single_term, whole_number,
+    zero_polynomial,
 };
 use determinacy::MatherRow;
 use ext_algebra::Ext;
 use jet_poly::Jet;
 use milnor_alg::{JetQuotient, TableRow};
 use mono_exp::Exp;
-use ring_law::Frac;
+use ring_law::{Fault, Frac};
 use sqlite_items::Items;
 use std::alloc::{AllocError, Global};
 
-/// Mather's row for `c*u1^m`: `u1^(m+1)` by the derivative; none where `m` is 2.
-#[tactic(auto, unfolding(crate::specs::Answers::mather_of))]
-pub fn mather_rows(alloc: Global, m: u8, c: i64) -> Result<Items<MatherRow<Ext<Frac>>>, AllocError>
-    requires order { m ≤ 12 }
-    requires unit { c ≢ pos 0 }
-    ensures { IfOk result (λ rows. rows ≡ mather_of m c) }
+#[tactic(auto, unfolding(one_variable_law::specs::Rows::mather_of))]
+fn rows_by(alloc: Global, m: u8, q: Frac) -> Result<Items<MatherRow<Ext<Frac>>>, AllocError>
+    requires { m ≤ 16 }
+    ensures { IfOk result (λ rows. rows ≡ mather_of m q) }
 {
     if m == 2 {
         return Ok(Items::new(alloc));
     }
-    let multiplier = single_term(alloc, m, reciprocal_of(m, c), 2)?;
+    let multiplier = single_term(alloc, m, q, 2)?;
     let row = MatherRow {
         monomial: power_of_u1(m + 1),
         multipliers: one(alloc, multiplier)?,
     };
     one(alloc, row)
+}
+
+/// The rows of Mather's test of the form `c*u1^m`: `u1^(m+1)` by the derivative; none where m is 2.
+///
+/// Errors: `Range` only where m is at least 3 and `m*c` has height 2^120 or more.
+pub fn mather_rows(alloc: Global, m: u8, c: Frac) -> Result<Items<MatherRow<Ext<Frac>>>, Fault>
+    requires { IsNameable m c }
+    ensures rows { IfOk result (AreRowsOf m c) }
+    ensures range { OnFault result (IsDerivativeHigh m (frac_value c)) }
+{
+    let q = derivative_inverse(m, c)?;
+    Ok(rows_by(alloc, m, q)?)
 }
 
 fn basis(alloc: Global, count: u8) -> Result<Items<Exp>, AllocError>
@@ -42,7 +58,7 @@ fn basis(alloc: Global, count: u8) -> Result<Items<Exp>, AllocError>
     Ok(basis)
 }
 
-#[tactic(auto, unfolding(crate::specs::Answers::unit_value))]
+#[tactic(auto, unfolding(one_variable_law::specs::Rows::unit_value))]
 fn value_at(place: u8, i: u8) -> Ext<Frac>
     ensures { result ≡ unit_value place i }
 {
@@ -63,7 +79,7 @@ fn row_values(alloc: Global, place: u8, count: u8) -> Result<Items<Ext<Frac>>, A
     Ok(values)
 }
 
-#[tactic(auto, unfolding(crate::specs::Answers::multiplier_of))]
+#[tactic(auto, unfolding(one_variable_law::specs::Rows::multiplier_of))]
 fn multiplier(alloc: Global, m: u8, q: Frac, e: u8) -> Result<Jet<Ext<Frac>>, AllocError>
     requires order { 1 ≤ m }
     ensures { IfOk result (λ jet. jet ≡ multiplier_of m q e) }
@@ -86,7 +102,7 @@ fn multipliers(alloc: Global, m: u8, q: Frac, e: u8) -> Result<Items<Jet<Ext<Fra
     }
 }
 
-#[tactic(auto, unfolding(crate::specs::Answers::row_of))]
+#[tactic(auto, unfolding(one_variable_law::specs::Rows::row_of))]
 fn row(alloc: Global, m: u8, q: Frac, e: u8) -> Result<TableRow<Ext<Frac>>, AllocError>
     requires order { 1 ≤ m }
     ensures { IfOk result (λ row. row ≡ row_of m q e) }
@@ -110,22 +126,32 @@ fn table(alloc: Global, m: u8, q: Frac, count: u8) -> Result<Items<TableRow<Ext<
 }
 
 fn rows_needed(m: u8) -> u8
-    requires small { m ≤ 12 }
+    requires small { m ≤ 16 }
     ensures { result ≡ row_count m }
 {
     if m == 2 { 1 } else { m + 1 }
 }
 
-/// The basis 1, .., `u1^(m-2)` of the Milnor algebra of `c*u1^m`, and its table.
-#[tactic(auto, unfolding(crate::specs::Answers::quotient_of))]
-pub fn quotient(alloc: Global, m: u8, c: i64) -> Result<JetQuotient<Ext<Frac>>, AllocError>
-    requires unit { c ≢ pos 0 }
+#[tactic(auto, unfolding(one_variable_law::specs::Rows::quotient_of))]
+fn quotient_by(alloc: Global, m: u8, q: Frac) -> Result<JetQuotient<Ext<Frac>>, AllocError>
     requires order { 1 ≤ m }
-    requires small { m ≤ 12 }
-    ensures { IfOk result (λ q. q ≡ quotient_of m c) }
+    requires small { m ≤ 16 }
+    ensures { IfOk result (λ r. r ≡ quotient_of m q) }
 {
     Ok(JetQuotient {
         basis: basis(alloc, m - 1)?,
-        table: table(alloc, m, reciprocal_of(m, c), rows_needed(m))?,
+        table: table(alloc, m, q, rows_needed(m))?,
     })
+}
+
+/// The Milnor algebra of the form `c*u1^m` up to order m: the basis 1, .., `u1^(m-2)`, and its table.
+///
+/// Errors: `Range` only where m is at least 3 and `m*c` has height 2^120 or more.
+pub fn quotient(alloc: Global, m: u8, c: Frac) -> Result<JetQuotient<Ext<Frac>>, Fault>
+    requires { IsNameable m c }
+    ensures quotient { IfOk result (IsQuotientOf m c) }
+    ensures range { OnFault result (IsDerivativeHigh m (frac_value c)) }
+{
+    let q = derivative_inverse(m, c)?;
+    Ok(quotient_by(alloc, m, q)?)
 }

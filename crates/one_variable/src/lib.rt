@@ -1,4 +1,4 @@
-//! The report of a line in one variable.
+//! The report of one line, where it has one variable.
 #![tactic(auto)]
 
 mod answer;
@@ -7,4 +7,10 @@ mod laws;
 mod piece;
 
 pub use answer::classify;
-pub use laws::{too_long_exactly, unbuilt_exactly};
+pub use laws::{
+    decided_in_one_variable, literal_exactly, not_critical_exactly, syntax_exactly,
+    too_long_exactly, unbuilt_exactly,
+};
+
+#[cfg(test)]
+mod tests;

@@ -1,6 +1,11 @@
 //! Numbers, powers and polynomials in one variable, as the pieces of a report.
-ghost use Rattle.one_variable.specs.Answers.{whole, reciprocal, rational, power, single, zero_jet, identity, carried_of};
-ghost use Rattle.std.specs.Prelude.{◌≡◌, ◌≢◌, ◌∷◌, [], IfOk, pos};
+ghost use Rattle.one_variable_law.specs.Plan.{IsDerivativeHigh};
+ghost use Rattle.one_variable_law.specs.Reports.{whole, rational, power, single, zero_jet, identity, corank_of, form_of, carried_of};
+ghost use Rattle.one_variable_law.specs.Rows.{IsInverseMultiple};
+ghost use Rattle.ring_law.specs.Fraction.{IsFrac, Represents, frac_value};
+ghost use Rattle.ring_law.specs.Refusals.{OnRange};
+ghost use Rattle.ring_theory.specs.Rational.{rational_ops, rational_inv};
+ghost use Rattle.std.specs.Prelude.{◌≡◌, ◌≢◌, ◌≤◌, ◌∷◌, [], IfOk, pos};
 
 use cert_text::Carried;
 use coord_change::Change;
@@ -8,7 +13,8 @@ use ext_algebra::{Algebra, Ext};
 use jet_poly::Jet;
 use mono_exp::Exp;
 use poly_text::Name;
-use ring_law::Frac;
+use ring_law::{Frac, Range, Ring};
+use small_frac::{Rationals, inv};
 use sqlite_items::Items;
 use std::alloc::{AllocError, Global};
 
@@ -22,8 +28,8 @@ pub fn one<T: Drop>(alloc: Global, item: T) -> Result<Items<T>, AllocError>
 }
 
 /// `n` as a fraction.
-pub fn whole_number(n: i64) -> Frac
-    ensures { result ≡ whole n }
+pub fn whole_number(n: u8) -> Frac
+    ensures { result ≡ whole (pos n) }
 {
     Frac {
         num: i128::from(n),
@@ -31,17 +37,31 @@ pub fn whole_number(n: i64) -> Frac
     }
 }
 
-/// `1/(k*n)`, in lowest terms.
-pub fn reciprocal_of(k: u8, n: i64) -> Frac
-    requires unit { n ≢ pos 0 }
-    ensures { result ≡ reciprocal k n }
+/// `1/c`.
+pub fn inverse_of(c: Frac) -> Frac
+    requires valid { IsFrac c }
+    requires unit { frac_value c ≢ rational_ops.zero }
+    ensures { Represents result (rational_inv (frac_value c)) }
 {
-    let den = i128::from(n.unsigned_abs()) * i128::from(k);
-    if n < 0 {
-        Frac { num: -1, den }
-    } else {
-        Frac { num: 1, den }
+    inv(c).unwrap()
+}
+
+/// `1/(m*c)`, by which the rows of the form `c*u1^m` multiply its derivative. The form `c*u1^2` has no
+/// residual variable, and its rows multiply nothing: the answer is then 1.
+///
+/// Errors: `Range` only where m is at least 3 and `m*c` has height 2^120 or more.
+pub fn derivative_inverse(m: u8, c: Frac) -> Result<Frac, Range>
+    requires order { 2 ≤ m }
+    requires valid { IsFrac c }
+    requires unit { frac_value c ≢ rational_ops.zero }
+    ensures inverse { IfOk result (λ q. 3 ≤ m → IsInverseMultiple m c q) }
+    ensures range { OnRange result (IsDerivativeHigh m (frac_value c)) }
+{
+    if m == 2 {
+        return Ok(whole_number(1));
     }
+    let multiple = Rationals.mul(whole_number(m), c)?;
+    Ok(inverse_of(multiple))
 }
 
 /// The fraction as an element of an algebra.
@@ -93,7 +113,6 @@ fn identity_change(alloc: Global, order: u8) -> Result<Change<Ext<Frac>>, AllocE
 }
 
 /// What the identity change carries a germ to.
-#[tactic(auto, unfolding(crate::specs::Answers::carried_of))]
 pub fn carried_jet(
     alloc: Global,
     name: Name,
@@ -111,4 +130,18 @@ pub fn carried_jet(
         change: identity_change(alloc, order)?,
         jet,
     })
+}
+
+fn corank(m: u8) -> u8
+    ensures { result ≡ corank_of m }
+{
+    if m == 2 { 0 } else { 1 }
+}
+
+/// The form `c*u1^m` at order m.
+pub fn form(alloc: Global, name: Name, m: u8, c: Frac) -> Result<Carried, AllocError>
+    ensures { IfOk result (λ r. r ≡ form_of name m c) }
+{
+    let jet = single_term(alloc, m, c, m)?;
+    carried_jet(alloc, name, m, corank(m), jet)
 }

@@ -1,7 +1,8 @@
 -- The certificate of `[x] x^3` is valid, and each false certificate is refuted.
-use Rattle.std.proofs.Common.{◌≡◌, ℕ, suc, ◌≤◌, length, [], ◌∷◌, Some, codes, unsigned_abs, refl, sym, ap, subst, true≢false, le_of_eq, arith, get_or}
+use Rattle.std.proofs.lemmas.Int.{ints}
+use Rattle.std.proofs.Common.{◌≡◌, ◌≢◌, ℕ, zero, suc, pos, ◌<◌, ◌≤◌, length, [], ◌∷◌, Some, codes, unsigned_abs, refl, sym, ap, subst, true≢false, le_of_eq, arith, get_or}
 use Rattle.ring_theory.specs.Gcd.{gcd}
-use Rattle.ring_theory.specs.Rational.{rational, rational_zero, rational_add, rational_mul, rational_neg, rational_ops}
+use Rattle.ring_theory.specs.Rational.{rational, rational_zero, rational_add, rational_mul, rational_neg, rational_inv, rational_ops}
 use Rattle.ext_algebra.specs.Algebra.{scalars, value_in}
 use Rattle.poly_law.specs.Exps.{degree}
 use Rattle.poly_law.specs.ExpList.{exps}
@@ -10,23 +11,99 @@ use Rattle.line_syntax.specs.Grammar.{Spells}
 use Rattle.line_syntax.proofs.OneLine.{one_line}
 use Rattle.germ_law.specs.Germ.{IsCritical, linear_coefficient}
 use Rattle.normal_forms.specs.Monomials.{is_split, residual_terms}
-use Rattle.report_law.specs.Right.{IsRight}
 use Rattle.report_law.specs.Polynomials.{monomial_in, terms_in, jet_at, value_at, lifted, residual_part}
-use Rattle.small_line.specs.Small.{number_of, exponent_of, power_of, monomial_of, parts_of, monomials_of, sum_of, is_name, small_of}
-use Rattle.one_variable.specs.Answers.{report_of, small_answer, named_of, carried_of, mather_of, quotient_of, row_of, multiplier_of, unit_value}
-use Rattle.one_variable_law.specs.Rightness.{IsNotSmall}
-use Rattle.one_variable_law.specs.Examples.{cubic_bytes, cubic_report, CubicIsValid, FalseItemsAreRefuted}
-use Rattle.one_variable_law.proofs.Right.{report_right}
+use Rattle.ring_theory.proofs.RationalLaws.{rational_scalar_laws}
+use Rattle.ring_law.specs.declared.fraction.Frac.{Frac}
+use Rattle.ring_law.specs.Fraction.{IsFrac, Represents, frac_value}
+use Rattle.jet_poly.proofs.Derived.{whole_valid}
+use Rattle.poly_text.specs.declared.name.Name.{Name}
+use Rattle.cert_text.specs.declared.report.Answer.TheVariants as answers
+use Rattle.one_variable_law.specs.Plan.{IsOneVariable, germ_coefficient, IsFirstTerm}
+use Rattle.one_variable_law.specs.Rows.{IsInverseMultiple, mather_of, multiplier_of, quotient_of, row_of, unit_value}
+use Rattle.one_variable_law.specs.Answers.{named_of}
+use Rattle.one_variable_law.specs.Examples.{cubic_bytes, cubic_line, cubic_named, variable_name, CubicIsValid, FalseItemsAreRefuted}
+use Rattle.one_variable_law.proofs.Powers.{only_first}
+use Rattle.one_variable_law.proofs.Valid.{number_valid}
+use Rattle.one_variable_law.proofs.RowLaws.{rows_are, quotient_is}
+use Rattle.one_variable_law.proofs.Right.{IsGood, form_good}
 
-its_report : report_of cubic_bytes ≡ cubic_report
-unfolding report_of small_answer small_of number_of exponent_of power_of monomial_of parts_of monomials_of sum_of is_name named_of carried_of mather_of quotient_of row_of multiplier_of unit_value
-its_report = refl
+cubic_spelled : Spells cubic_bytes cubic_line
+cubic_spelled = record {
+  is_line = record { tokens = refl; divisors = refl; depth = omega arith; some_name = omega arith; few_names = omega arith; distinct = refl; covered = refl };
+  spaced = (
+    [],
+    codes "x] x^3",
+    refl,
+    refl,
+    ([], codes "] x^3", refl, refl, ([], codes " x^3", refl, refl, (codes " ", codes "^3", refl, refl, ([], codes "3", refl, refl, ([], [], refl, refl, refl))))),
+  );
+}
 
-right : IsRight IsNotSmall 12 cubic_bytes cubic_report
-right = subst (IsRight IsNotSmall 12 cubic_bytes) its_report (report_right cubic_bytes (omega arith) refl)
+abbrev name : Name
+name = variable_name 120
+
+abbrev one : Frac
+one = record { num = pos 1; den = pos 1 }
+
+abbrev third : Frac
+third = record { num = pos 1; den = pos 3 }
+
+no_linear : linear_coefficient cubic_line 0 ≡ rational_ops.zero
+unfolding rational gcd rational_zero rational_add rational_mul rational_neg
+no_linear = refl
+
+cubic_here : IsOneVariable cubic_bytes cubic_line
+cubic_here = record {
+  critical = record {
+    short = omega arith;
+    spells = cubic_spelled;
+    small = refl;
+    critical = λ i h. subst (λ i. linear_coefficient cubic_line i ≡ rational_ops.zero) (sym (only_first i h)) no_linear;
+  };
+  one = refl;
+}
+
+coefficient_three : germ_coefficient cubic_line 3 ≡ frac_value one
+unfolding rational gcd rational_zero rational_add rational_mul rational_neg
+coefficient_three = refl
+
+none_below : (w : ℕ) → w < 3 → germ_coefficient cubic_line w ≡ rational_ops.zero
+unfolding rational gcd rational_zero rational_add rational_mul rational_neg
+none_below zero h = refl
+none_below (suc zero) h = refl
+none_below (suc (suc zero)) h = refl
+none_below (suc (suc (suc w))) h = absurd (omega arith)
+
+cubic_first : IsFirstTerm cubic_line 3 (frac_value one)
+cubic_first = record { coefficient_is = coefficient_three; unit = rational_scalar_laws.nontrivial; least = none_below }
+
+third_valid : IsFrac third
+unfolding gcd
+third_valid = record { den_pos = omega (arith, ints); lowest = refl; num_fits = omega arith; den_fits = omega arith }
+
+third_inverse : IsInverseMultiple 3 one third
+unfolding rational gcd rational_zero rational_add rational_mul
+third_inverse = record { valid = third_valid; inverse = refl }
+
+one_inverse : Represents one (rational_inv (frac_value one))
+unfolding rational gcd rational_zero rational_inv
+one_inverse = record { valid = whole_valid 1 (omega arith); value_is = refl }
+
+its_certificate : named_of name 3 one one (mather_of 3 third) (quotient_of 3 third) ≡ cubic_named
+unfolding mather_of quotient_of row_of multiplier_of unit_value
+its_certificate = refl
+
+one_apart : pos 1 ≢ pos 0
+one_apart q = cc
+
+cubic_good : IsGood cubic_bytes 12 (answers.Named cubic_named)
+cubic_good =
+    subst (λ r. IsGood cubic_bytes 12 (answers.Named r)) its_certificate
+    (form_good cubic_bytes 12 (omega arith) (omega arith) cubic_line cubic_here name (record { text = refl; valid = refl }) 3 one cubic_first (omega arith) (omega arith) (number_valid 1 (omega arith)) one_apart
+    one (mather_of 3 third) (quotient_of 3 third) one_inverse (rows_are one third 3 (omega arith) (omega arith) (λ h. third_inverse)) (quotient_is one third 3 (omega arith) (omega arith) (λ h. third_inverse)))
 
 pub cubic_valid : CubicIsValid
-cubic_valid = (right.well_formed, right.truthful.2.0)
+cubic_valid = ((record { short = omega arith; are_bytes = refl }, cubic_good.well_formed), cubic_good.right.0)
 
 x_line : Line
 x_line = record { declared = Some (codes "x" ∷ []); body = first (factor (plain (variable (codes "x")))) }

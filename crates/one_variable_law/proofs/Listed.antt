@@ -2,8 +2,8 @@
 use Rattle.std.proofs.Common.{◌≡◌, ℕ, zero, suc, ◌+◌, ◌<◌, ◌≤◌, Bool, true, false, cond, [], ◌∷◌, ◌++◌, length, get_or, eqb, eqb-true, eq-eqb, Some, refl, sym, ap, ◌∙◌, arith, true≢false}
 use Rattle.std.specs.Prelude.{find}
 use Rattle.std.specs.List.{list_all, AllByRecursion}
-use Rattle.one_variable.specs.Answers.{listed}
-use Rattle.one_variable_law.proofs.Numerals.{and_both}
+use Rattle.one_variable_law.specs.Rows.{listed}
+use Rattle.one_variable_law.proofs.Bools.{and_both}
 
 pub listed_at : {A : Type 0} (f : ℕ → A) (d : A) (i n j : ℕ) → j < n → get_or (listed f i n) j d ≡ f (i + j)
 listed_at f d i zero j h = absurd (omega arith)

@@ -1,2 +1,5 @@
-pub mod Rightness
+pub mod Reports
+pub mod Rows
+pub mod Plan
+pub mod Answers
 pub mod Examples

@@ -10,6 +10,7 @@ use Rattle.ext_algebra.specs.declared.algebra.Algebra.TheVariants as algebras
 use Rattle.line_syntax.specs.Syntax.{Line, names_of}
 use Rattle.line_syntax.specs.Grammar.{Spells, has_small_literals}
 use Rattle.germ_law.specs.Germ.{IsCritical, line_limit}
+use Rattle.germ_law.specs.Reading.{IsReadingHigh}
 use Rattle.cert_text.specs.declared.report.Carried.{Carried}
 use Rattle.cert_text.specs.declared.report.Phase.TheVariants as phases
 use Rattle.cert_text.specs.declared.report.Phase.{Phase}
@@ -57,30 +58,36 @@ pub record IsWithin (limit : ℕ) (c : Carried) : Type 0 where
   pub order : c.order ≤ order_limit limit (length c.names)
   pub field : HasNoRoot c.algebra
 
--- what `range` says in this phase: the line is in the grammar; past its reading, it is critical
-abbrev pub IsRangeOf : List ℕ → Phase → Type 0
-IsRangeOf bytes phases.Line = IsRead bytes
-IsRangeOf bytes phases.Hessian = IsCriticalLine bytes
-IsRangeOf bytes phases.Split = IsCriticalLine bytes
-IsRangeOf bytes phases.Shape = IsCriticalLine bytes
-IsRangeOf bytes phases.Kill = IsCriticalLine bytes
-IsRangeOf bytes phases.Mather = IsCriticalLine bytes
-IsRangeOf bytes phases.Finish = IsCriticalLine bytes
-IsRangeOf bytes phases.Milnor = IsCriticalLine bytes
+-- the line is in the grammar, with small numbers, and reading it up to its order limit forms a number of height at least 2^120
+pub record IsHighLine (bytes : List ℕ) (limit : ℕ) : Type 0 where
+  pub read : IsRead bytes
+  pub is_high : IsReadingHigh (order_limit limit (length (names_of read.line))) read.line
 
--- the answer to a line of at most 65,536 bytes is right; `IsUnbuilt` says which lines are not built yet
+-- what `range` says in this phase: reading the line is high; past its reading, it is critical
+abbrev pub IsRangeOf : List ℕ → ℕ → Phase → Type 0
+IsRangeOf bytes limit phases.Line = IsHighLine bytes limit
+IsRangeOf bytes limit phases.Hessian = IsCriticalLine bytes
+IsRangeOf bytes limit phases.Split = IsCriticalLine bytes
+IsRangeOf bytes limit phases.Shape = IsCriticalLine bytes
+IsRangeOf bytes limit phases.Kill = IsCriticalLine bytes
+IsRangeOf bytes limit phases.Mather = IsCriticalLine bytes
+IsRangeOf bytes limit phases.Finish = IsCriticalLine bytes
+IsRangeOf bytes limit phases.Milnor = IsCriticalLine bytes
+
+-- the answer to a line of at most 65,536 bytes is right; `IsUnbuilt` says which lines are not built yet: past reading, no other answer
+-- than `unbuilt` or `range` is right for them
 abbrev pub IsRightAnswer : (List ℕ → Type 0) → List ℕ → ℕ → Answer → Type 0
 IsRightAnswer IsUnbuilt bytes limit (answers.Syntax column what) = IsSyntaxRefusal bytes column what
 IsRightAnswer IsUnbuilt bytes limit (answers.Literal column) = IsLiteralRefusal bytes column
 IsRightAnswer IsUnbuilt bytes limit (answers.NotCritical variable) = IsValidAnswer bytes (answers.NotCritical variable)
-IsRightAnswer IsUnbuilt bytes limit (answers.Range phase) = IsRangeOf bytes phase
-IsRightAnswer IsUnbuilt bytes limit (answers.Field algebra) = IsCriticalLine bytes
+IsRightAnswer IsUnbuilt bytes limit (answers.Range phase) = IsRangeOf bytes limit phase
+IsRightAnswer IsUnbuilt bytes limit (answers.Field algebra) = IsCriticalLine bytes × ¬ IsUnbuilt bytes
 IsRightAnswer IsUnbuilt bytes limit answers.Unbuilt = IsUnbuilt bytes
-IsRightAnswer IsUnbuilt bytes limit (answers.Named r) = IsValidAnswer bytes (answers.Named r) × IsWithin limit r.carried
-IsRightAnswer IsUnbuilt bytes limit (answers.Outside r) = IsValidAnswer bytes (answers.Outside r) × IsWithin limit r.carried
+IsRightAnswer IsUnbuilt bytes limit (answers.Named r) = IsValidAnswer bytes (answers.Named r) × IsWithin limit r.carried × ¬ IsUnbuilt bytes
+IsRightAnswer IsUnbuilt bytes limit (answers.Outside r) = IsValidAnswer bytes (answers.Outside r) × IsWithin limit r.carried × ¬ IsUnbuilt bytes
 IsRightAnswer IsUnbuilt bytes limit (answers.Limit r) =
-    IsValidAnswer bytes (answers.Limit r) × IsWithin limit r.carried × (r.carried.order ≡ order_limit limit (length r.carried.names))
-IsRightAnswer IsUnbuilt bytes limit (answers.Unresolved r) = IsValidAnswer bytes (answers.Unresolved r) × IsWithin limit r.carried
+    IsValidAnswer bytes (answers.Limit r) × IsWithin limit r.carried × (r.carried.order ≡ order_limit limit (length r.carried.names)) × ¬ IsUnbuilt bytes
+IsRightAnswer IsUnbuilt bytes limit (answers.Unresolved r) = IsValidAnswer bytes (answers.Unresolved r) × IsWithin limit r.carried × ¬ IsUnbuilt bytes
 
 -- it holds the line, unless this is too long, and says what is true of it
 abbrev pub SaysTruth : (List ℕ → Type 0) → List ℕ → ℕ → Report → Type 0

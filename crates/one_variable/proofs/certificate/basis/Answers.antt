@@ -1,4 +1,4 @@
-use Rattle.one_variable.specs.Answers.{power}
+use Rattle.one_variable_law.specs.Reports.{power}
 use Rattle.one_variable.proofs.Listed.{listed_step}
 use Rattle.one_variable.proofs.certificate.basis.Goals as goal
 

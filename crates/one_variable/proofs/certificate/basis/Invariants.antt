@@ -1,5 +1,6 @@
 use Rattle.std.proofs.Common.{◌≡◌, ◌++◌, ◌-◌}
-use Rattle.one_variable.specs.Answers.{listed, power}
+use Rattle.one_variable_law.specs.Rows.{listed}
+use Rattle.one_variable_law.specs.Reports.{power}
 use Rattle.one_variable.proofs.certificate.basis.Given as goal
 
 abbrev pub invariant-loop-e : goal.invariant-loop-e

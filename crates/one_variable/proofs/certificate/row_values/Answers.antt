@@ -1,4 +1,4 @@
-use Rattle.one_variable.specs.Answers.{unit_value}
+use Rattle.one_variable_law.specs.Rows.{unit_value}
 use Rattle.one_variable.proofs.Listed.{listed_step}
 use Rattle.one_variable.proofs.certificate.row_values.Goals as goal
 

@@ -1,5 +1,5 @@
 use Rattle.std.proofs.Common.{◌≡◌, ◌++◌, ◌-◌}
-use Rattle.one_variable.specs.Answers.{listed, unit_value}
+use Rattle.one_variable_law.specs.Rows.{listed, unit_value}
 use Rattle.one_variable.proofs.certificate.row_values.Given as goal
 
 abbrev pub invariant-loop-i : goal.invariant-loop-i

@@ -1,4 +1,4 @@
-use Rattle.one_variable.specs.Answers.{row_of}
+use Rattle.one_variable_law.specs.Rows.{row_of}
 use Rattle.one_variable.proofs.Listed.{listed_step}
 use Rattle.one_variable.proofs.certificate.table.Goals as goal
 

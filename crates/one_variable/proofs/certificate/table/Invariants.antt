@@ -1,5 +1,5 @@
 use Rattle.std.proofs.Common.{◌≡◌, ◌++◌, ◌-◌}
-use Rattle.one_variable.specs.Answers.{listed, row_of}
+use Rattle.one_variable_law.specs.Rows.{listed, row_of}
 use Rattle.one_variable.proofs.certificate.table.Given as goal
 
 abbrev pub invariant-loop-e : goal.invariant-loop-e
