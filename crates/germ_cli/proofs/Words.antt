@@ -1,6 +1,6 @@
 -- Words that ask for a command.
 use Rattle.germ_cli.specs.Run.{Classifies}
-use Rattle.germ_cli.specs.Words.{AsksFor, IsLimit}
+use Rattle.germ_cli.specs.Words.{AsksFor, IsLimit, IsWithinLimits}
 use Rattle.germ_cli.specs.declared.command.Command.TheVariants as commands
 use Rattle.germ_cli.specs.declared.command.Command.{Command}
 use Rattle.germ_cli.specs.declared.status.Status.{Status}
@@ -58,3 +58,8 @@ one_limit words m n (inr p) (inr q) = decimal_injective m n (omega (arith, p.1.h
 pub as_asked : (words : List (List ℕ)) (command : Command) (limit : ℕ) (left after old new : Option (List ℕ)) (status : Status) → AsksFor words command → AsksFor words (commands.Classify limit)
     → ((k : ℕ) → command ≡ commands.Classify k → Classifies k left after old new status) → Classifies limit left after old new status
 as_asked words (commands.Classify m) limit left after old new status p q run = let P : ℕ → Type 0 = λ k. Classifies k left after old new status in subst P (one_limit words m limit p q) (run m refl)
+
+-- the order limit that is asked for may be named
+pub asked_within : (words : List (List ℕ)) (command : Command) → AsksFor words command → IsWithinLimits command
+asked_within words (commands.Classify limit) (inl usual) = let twelve : limit ≡ 12 = usual.1 in record { low = omega arith; high = omega arith }
+asked_within words (commands.Classify limit) (inr named) = named.1

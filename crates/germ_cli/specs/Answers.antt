@@ -1,22 +1,10 @@
--- Reports that answer lines, and their texts.
+-- Texts of reports that answer lines.
 use Rattle.cert_text.specs.Text.{report_text}
-use Rattle.cert_text.specs.declared.report.Answer.TheVariants as answers
-use Rattle.cert_text.specs.declared.report.Report.TheVariants as reports
 use Rattle.cert_text.specs.declared.report.Report.{Report}
 use Rattle.line_io.specs.Lines.{is_answered}
-use Rattle.report_law.specs.Right.{IsRight}
-use Rattle.small_line.specs.Small.{small_of}
+use Rattle.one_variable_law.specs.Plan.{IsAnswer}
 use Rattle.std.specs.Bool.{MatchBool}
-use Rattle.std.specs.Prelude.{◌≡◌, ◌≢◌, ◌⊎◌, ℕ, ◌≤◌, List, [], length, None}
-
--- the lines that are not answered yet up to this order: those that are not in the small grammar, and all at another order than 12
-abbrev pub IsUnbuilt : ℕ → List ℕ → Type 0
-IsUnbuilt limit line = (limit ≢ 12) ⊎ (small_of line ≡ None)
-
--- the report answers the line: it is right for it up to this order, and says `unbuilt` of each line that is not answered yet
-pub record IsAnswer (limit : ℕ) (line : List ℕ) (report : Report) : Type 0 where
-  pub right : IsRight (IsUnbuilt limit) limit line report
-  pub unbuilt : length line ≤ 65536 → IsUnbuilt limit line → report ≡ reports.Line line answers.Unbuilt
+use Rattle.std.specs.Prelude.{◌≡◌, ℕ, List, []}
 
 -- the text is that of a report that answers the line
 pub record IsAnswerText (limit : ℕ) (line text : List ℕ) : Type 0 where

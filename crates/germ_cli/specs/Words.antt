@@ -8,6 +8,10 @@ pub record IsLimit (limit : ℕ) : Type 0 where
   pub low : 3 ≤ limit
   pub high : limit ≤ 16
 
+-- the order limit of a command is one that may be named
+abbrev pub IsWithinLimits : Command → Type 0
+IsWithinLimits (commands.Classify limit) = IsLimit limit
+
 -- the words ask for this command: `classify` up to order 12, or `classify K` up to order K
 abbrev pub AsksFor : List (List ℕ) → Command → Type 0
 AsksFor words (commands.Classify limit) =

@@ -1,42 +1,24 @@
 //! The text for one line.
-ghost use Rattle.germ_cli.specs.Answers.{IsAnswer, IsAnswerText, IsTextFor};
+ghost use Rattle.germ_cli.specs.Answers.{IsAnswerText, IsTextFor};
+ghost use Rattle.germ_cli.specs.Words.{IsLimit};
 ghost use Rattle.line_io.specs.LineSoFar.{IsUnbroken};
 ghost use Rattle.line_io.specs.Reading.{IsHandedOut};
 ghost use Rattle.std.specs.Prelude.{◌≡◌, ◌≤◌, ◌<◌, ℕ, List, length, IfOk};
 
-use cert_text::{Answer, Report, write_report};
+use cert_text::{Report, write_report};
 use line_io::{MAX_LINE, Next, is_answered_line};
 use one_variable::classify;
 use ring_law::NoMemory;
-use sqlite_items::Items;
-use std::alloc::{AllocError, Global};
-
-// The report of a line up to this order.
-fn report_of_line(alloc: Global, limit: u8, line: &[u8]) -> Result<Report, AllocError>
-    requires short { length line.now ≤ MAX_LINE }
-    requires unbroken { IsUnbroken line.now }
-    ensures { IfOk result (IsAnswer limit line.now) }
-{
-    if limit == 12 {
-        classify(alloc, line)
-    } else {
-        Ok(Report::Line {
-            line: Items::from_slice(alloc, line)?,
-            answer: Answer::Unbuilt,
-        })
-    }
-}
+use std::alloc::Global;
 
 // The text of the report of a line.
 fn answer_text(alloc: Global, limit: u8, line: &[u8]) -> Result<Vec<u8>, NoMemory>
-    requires short { length line.now ≤ MAX_LINE }
+    requires limit { IsLimit limit }
     requires unbroken { IsUnbroken line.now }
     ensures { IfOk result (λ text. IsAnswerText limit line.now text.items) }
 {
-    match report_of_line(alloc, limit, line) {
-        Ok(report) => write_report(alloc, &report),
-        Err(_) => Err(NoMemory),
-    }
+    let report = classify(alloc, line, limit)?;
+    write_report(alloc, &report)
 }
 
 // The text of the report of a line with so many bytes, which is too long.
@@ -49,7 +31,7 @@ fn too_long_text(alloc: Global, count: u64) -> Result<Vec<u8>, NoMemory>
 /// The text for a line that was handed out, up to this order: that of its report, or nothing where it
 /// is passed over. `line` is the line after `Next::Line`.
 pub fn text_for(alloc: Global, limit: u8, next: Next, line: &[u8]) -> Result<Vec<u8>, NoMemory>
-    requires short { next ≡ Next.Line → length line.now ≤ MAX_LINE }
+    requires limit { IsLimit limit }
     requires unbroken { next ≡ Next.Line → IsUnbroken line.now }
     ensures { IfOk result (λ text. (bytes : List ℕ) → IsHandedOut bytes line.now next → IsTextFor limit bytes text.items) }
 {

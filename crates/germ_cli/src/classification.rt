@@ -1,5 +1,6 @@
 //! The command `classify`.
 ghost use Rattle.germ_cli.specs.Run.{Classifies, end_status};
+ghost use Rattle.germ_cli.specs.Words.{IsLimit};
 ghost use Rattle.line_io.specs.Causes.{Rose};
 ghost use Rattle.std.specs.Prelude.{◌≡◌};
 
@@ -29,6 +30,7 @@ pub fn classify_lines<S: Source, W: Sink>(
     source: &mut S,
     sink: &mut W,
 ) -> Status
+    requires { IsLimit limit }
     ensures classifies { Classifies limit (S.left source.old) (S.left source.new) (W.taken sink.old) (W.taken sink.new) result }
     ensures read { result ≡ Status.ReadFault → Rose (S.faults source.old) (S.faults source.new) }
     ensures write { result ≡ Status.WriteFault → Rose (W.faults sink.old) (W.faults sink.new) }

@@ -1,8 +1,9 @@
 //! The top call.
 ghost use Rattle.germ_cli.specs.Run.{AnswersAll, AnswersEnded, AnswersWithin, Classifies, EndsWell, IsQuiet, TakesWithin, WroteFront, WroteUsage};
-ghost use Rattle.germ_cli.specs.Words.{AskForNothing, AsksFor};
+ghost use Rattle.germ_cli.specs.Words.{AskForNothing, AsksFor, IsWithinLimits};
 ghost use Rattle.line_io.specs.Causes.{Rose};
 ghost use Rattle.line_io.specs.Lines.{answered_lines};
+ghost use Rattle.one_variable.specs.Laws.{IsExact};
 ghost use Rattle.std.specs.Io.KnownBytes.{Keeps};
 ghost use Rattle.std.specs.Prelude.{◌≡◌, ◌≤◌, ℕ, map, IfSome, string_bytes};
 
@@ -21,6 +22,7 @@ fn execute<S: Source, W: Sink>(
     source: &mut S,
     sink: &mut W,
 ) -> Status
+    requires { IsWithinLimits command }
     ensures classifies { (limit : ℕ) → command ≡ Command.Classify limit → Classifies limit (S.left source.old) (S.left source.new) (W.taken sink.old) (W.taken sink.new) result }
     ensures within { TakesWithin (S.left source.old) (S.left source.new) result }
     ensures read { result ≡ Status.ReadFault → Rose (S.faults source.old) (S.faults source.new) }
@@ -77,6 +79,9 @@ pub fn run<S: Source, W: Sink>(
     // With no fault and an input within the limit it ends well, or memory ran out.
     ensures complete { (limit : ℕ) → AsksFor (map string_bytes words.now) (Command.Classify limit) → IsQuiet (S.faults source.old) (S.faults source.new)
         → IsQuiet (W.faults sink.old) (W.faults sink.new) → EndsWell (S.left source.old) result }
+
+    // Which lines get which answer.
+    ensures exact { IsExact }
 {
     match read_words(words) {
         Some(command) => execute(alloc, command, source, sink),

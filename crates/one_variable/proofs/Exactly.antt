@@ -26,7 +26,7 @@ use Rattle.report_law.specs.Right.{IsManyVariables, IsRead, IsRightAnswer}
 use Rattle.line_germ.specs.Answers.{what_at}
 use Rattle.one_variable_law.proofs.Right.{not_many}
 use Rattle.one_variable_law.specs.Plan.{IsAnswer, IsOneVariable, IsPlannedAnswer}
-use Rattle.one_variable.specs.Laws.{IsTooLongExactly, IsSyntaxExactly, IsLiteralAnswer, IsLiteralExactly, IsNotCriticalAnswer, IsNotCriticalExactly, IsUnbuiltExactly, IsDecided, IsDecidedInOneVariable, named, undecided, high}
+use Rattle.one_variable.specs.Laws.{IsTooLongExactly, IsSyntaxExactly, IsLiteralAnswer, IsLiteralExactly, IsNotCriticalAnswer, IsNotCriticalExactly, IsUnbuiltExactly, IsDecided, IsDecidedInOneVariable, IsExact, named, undecided, high}
 
 -- ---- the report of a line
 
@@ -272,3 +272,6 @@ decided limit line r h l o = by_kind s.kind
     by_kind (not_read is read) = high phases.Line (s.report_is ∙ ap (reports.Line line) is)
     by_kind (many is m) = absurd (not_many line l o m)
     by_kind (one l' o' d) = by_decided d
+
+pub exact : IsExact
+exact = record { too_long = too_long; syntax = syntax; literal = literal; not_critical = not_critical; unbuilt = unbuilt; one_variable = decided }

@@ -65,3 +65,12 @@ pub data IsDecided (line : List ℕ) (r : Report) : Type 0 where
 -- a critical line in one variable is named, or answered `limit` or `range`
 abbrev pub IsDecidedInOneVariable : Type 0
 IsDecidedInOneVariable = (limit : ℕ) (line : List ℕ) (r : Report) → IsAnswer limit line r → (l : Line) → IsOneVariable line l → IsDecided line r
+
+-- which lines get which answer, exactly
+pub record IsExact : Type 0 where
+  pub too_long : IsTooLongExactly
+  pub syntax : IsSyntaxExactly
+  pub literal : IsLiteralExactly
+  pub not_critical : IsNotCriticalExactly
+  pub unbuilt : IsUnbuiltExactly
+  pub one_variable : IsDecidedInOneVariable

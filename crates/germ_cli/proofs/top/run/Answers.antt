@@ -1,4 +1,5 @@
-use Rattle.germ_cli.proofs.Words.{as_asked}
+use Rattle.germ_cli.proofs.Words.{as_asked, asked_within}
+use Rattle.one_variable.proofs.Exactly.{exact}
 use Rattle.germ_cli.proofs.top.run.Goals as goal
 use Rattle.germ_cli.specs.declared.command.Command.TheVariants as commands
 use Rattle.std.proofs.Common.{inl, refl}
@@ -26,3 +27,15 @@ returns-in-Ok-clause-complete g c = λ limit asked. absurd (c.in-None.ensures.no
 
 pub returns-in-Err-clause-front : goal.returns-in-Err-clause-front
 returns-in-Err-clause-front g c = λ limit asked. absurd (c.in-None.ensures.none refl (commands.Classify limit) asked)
+
+pub execute-requires : goal.execute-requires
+execute-requires g c = asked_within _ c.in-Some.command c.in-Some.ensures.some
+
+pub returns-in-Some-clause-exact : goal.returns-in-Some-clause-exact
+returns-in-Some-clause-exact g c = exact
+
+pub returns-in-Ok-clause-exact : goal.returns-in-Ok-clause-exact
+returns-in-Ok-clause-exact g c = exact
+
+pub returns-in-Err-clause-exact : goal.returns-in-Err-clause-exact
+returns-in-Err-clause-exact g c = exact
