@@ -20,6 +20,13 @@ const MIXED: &[u8] = b"[y] 3*y\n\n# note\r\nx*y\r\n[z] z";
 const MIXED_TEXT: &[u8] =
     b"germ [y] 3*y\nanswer not-critical y\nend\ngerm x*y\nanswer unbuilt\nend\ngerm [z] z\nanswer not-critical z\nend\n";
 
+// The texts of the next lines are those of another program, which was written from the definitions alone.
+const WHOLE: &[u8] =
+    b"x^2+1000000000000000000*x^3\n2^200*x^2\nx^^2\nx^2+y^2\n99*999999999999999999^2*x^5\nx^999999999999999999\n";
+
+const WHOLE_TEXT: &[u8] =
+    b"germ x^2+1000000000000000000*x^3\nanswer literal 5\nend\ngerm 2^200*x^2\nanswer range line\nend\ngerm x^^2\nanswer syntax 3 byte\nend\ngerm x^2+y^2\nanswer unbuilt\nend\ngerm 99*999999999999999999^2*x^5\nanswer range mather\nend\ngerm x^999999999999999999\nanswer limit\norder 12\nalgebra Q\ncorank 1\nchange\nx = u1\ninverse\n1\njet 0\nfunctional u1^13 1\nu1^13 1\nend\n";
+
 const USAGE: &[u8] = b"usage: germ classify [K] | check | make START COUNT | table\n";
 
 #[test]
@@ -29,6 +36,7 @@ fn one_report_for_each_answered_line(rt: HostRuntime) -> Result<(), Fail> {
         (b"[x] 0\n".as_slice(), LIMIT),
         (b"[x] 2*x^2-5*x^40", MORSE),
         (MIXED, MIXED_TEXT),
+        (WHOLE, WHOLE_TEXT),
         (b"", b""),
         (b"\n\r\n \t\n#", b""),
     ];
@@ -40,6 +48,29 @@ fn one_report_for_each_answered_line(rt: HostRuntime) -> Result<(), Fail> {
             assert_eq!(rt; status, Status::Done);
             assert_eq!(rt; sink.bytes(), text);
         }
+    }
+    Ok(())
+}
+
+#[test]
+fn the_order_limit_that_is_asked_for(rt: HostRuntime) -> Result<(), Fail> {
+    let rows = [
+        (
+            "3",
+            b"germ x^4\nanswer limit\norder 3\nalgebra Q\ncorank 1\nchange\nx = u1\ninverse\n1\njet 0\nfunctional u1^4 1\nu1^4 1\nend\n".as_slice(),
+        ),
+        (
+            "4",
+            b"germ x^4\nanswer named A3\norder 4\nalgebra Q\ncorank 1\nchange\nx = u1\ninverse\n1\nform u1^4\nunits 1\n1 1\nmodulus none\nmilnor 3\nmather 1\nu1^5 = 1/4*u1^2\nbasis 1 u1 u1^2\ntable 5\n1 = 1 0 0 : 0\nu1 = 0 1 0 : 0\nu1^2 = 0 0 1 : 0\nu1^3 = 0 0 0 : 1/4\nu1^4 = 0 0 0 : 1/4*u1\nend\n",
+        ),
+    ];
+    for (limit, text) in rows {
+        let words = words_of(rt.alloc(), &["classify", limit])?;
+        let mut source = MemSource::new(rt.alloc(), b"x^4", ROOM, &[]).map_err(|_| MEMORY)?;
+        let mut sink = MemSink::new(rt.alloc(), ROOM, ROOM, &[]).map_err(|_| MEMORY)?;
+        let status = run(rt.alloc(), &words, &mut source, &mut sink);
+        assert_eq!(rt; status, Status::Done);
+        assert_eq!(rt; sink.bytes(), text);
     }
     Ok(())
 }

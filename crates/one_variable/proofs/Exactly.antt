@@ -1,10 +1,9 @@
 -- Which lines get which answer: two kinds of answers exclude each other, since bytes spell one line.
-use Rattle.std.proofs.Common.{◌≡◌, ℕ, ◌+◌, ◌<◌, ◌≤◌, ◌⊎◌, inl, inr, Bool, true, false, ◌&&◌, List, [], ◌∷◌, ◌++◌, length, IsTrue, refl, sym, ap, ap₂, subst, ◌∙◌, arith, leb-true, append_assoc}
-use Rattle.std.specs.Prelude.{nat_lt, nat_le, slice_index_or}
+use Rattle.std.proofs.Common.{◌≡◌, ℕ, ◌+◌, ◌<◌, ◌≤◌, ◌⊎◌, inl, inr, true, List, [], ◌∷◌, ◌++◌, length, IsTrue, refl, sym, ap, ap₂, subst, ◌∙◌, arith, leb-true, append_assoc}
+use Rattle.std.specs.Prelude.{nat_le, slice_index_or}
 use Rattle.std.specs.List.{list_all}
 use Rattle.std.proofs.lemmas.List.Folds.{list_all-append}
-use Rattle.ring_theory.specs.Rational.{rational_ops}
-use Rattle.line_syntax.specs.Syntax.{Word, Line, Token, number, number_of, names_of, tokens_of, token_text}
+use Rattle.line_syntax.specs.Syntax.{Word, Line, Token, number, number_of, names_of, tokens_of}
 use Rattle.line_syntax.specs.Grammar.{IsSpaced, Spells, IsSyntaxError, IsLiteralError, has_small_literals, is_small_token, literal_limit}
 use Rattle.line_syntax.proofs.Bools.{and_left, and_right}
 use Rattle.line_syntax.proofs.OneLine.{one_line}

@@ -1,5 +1,5 @@
 -- The carried germ of a line in one variable: names, identity change, and a jet that agrees with the germ up to the order.
-use Rattle.std.proofs.Common.{◌≡◌, ◌≢◌, ℕ, ◌+◌, ◌*◌, ◌<◌, ◌≤◌, ◌⊎◌, inl, inr, List, [], ◌∷◌, map, length, refl, sym, ap, subst, ◌∙◌, arith}
+use Rattle.std.proofs.Common.{◌≡◌, ℕ, ◌+◌, ◌*◌, ◌≤◌, ◌⊎◌, inl, inr, List, [], ◌∷◌, length, refl, sym, ap, subst, ◌∙◌, arith}
 use Rattle.ring_law.specs.declared.fraction.Frac.{Frac}
 use Rattle.ring_law.specs.Fraction.{frac_value}
 use Rattle.ext_algebra.specs.declared.algebra.Algebra.TheVariants as algebras
@@ -16,7 +16,7 @@ use Rattle.poly_law.specs.Polynomials.{substitute}
 use Rattle.poly_law.proofs.ExpLists.{same_entries}
 use Rattle.line_syntax.specs.Syntax.{Line, names_of}
 use Rattle.germ_law.specs.Germ.{RationalPolynomial, germ_of}
-use Rattle.line_jet_law.specs.LineJets.{IsRationalJet, rational_polynomial}
+use Rattle.line_jet_law.specs.LineJets.{rational_polynomial}
 use Rattle.poly_text.specs.declared.name.Name.{Name}
 use Rattle.poly_text.specs.Polynomials.{name_text}
 use Rattle.report_law.specs.Polynomials.{monomial_in, terms_in, jet_at, value_at, lifted}

@@ -16,7 +16,6 @@ use Rattle.poly_law.specs.ExpList.{exps}
 use Rattle.poly_law.specs.Poly.{coefficient}
 use Rattle.poly_law.proofs.ExpLists.{same_entries}
 use Rattle.normal_forms.specs.declared.family.Family.TheVariants as families
-use Rattle.normal_forms.specs.declared.modulus.ModulusLine.TheVariants as modulus_lines
 use Rattle.normal_forms.specs.Monomials.{in_eight, is_split, residual_terms, is_one_of, square_of}
 use Rattle.normal_forms.specs.Families.{sum_of}
 use Rattle.poly_text.specs.declared.name.Name.{Name}
@@ -24,7 +23,6 @@ use Rattle.cert_text.specs.declared.report.Carried as carried_type
 use Rattle.cert_text.specs.declared.report.Named as named_type
 use Rattle.report_law.specs.Polynomials.{monomial_in, terms_in, residual_part, coefficient_at}
 use Rattle.report_law.specs.Items.{jet_of, residual_of, IsForm, AreUnits, IsModulusOf}
-use Rattle.one_variable_law.specs.Reports as reports
 use Rattle.one_variable_law.specs.Reports.{power, single, carried_of}
 use Rattle.one_variable_law.specs.Answers.{named_of}
 use Rattle.one_variable_law.proofs.Powers.{x_to, coefficient_same}

@@ -1,6 +1,6 @@
 -- The rows of the form c*u1^m, m at least 3: each power from u1^(m-1) on is a multiple of the derivative.
-use Rattle.std.proofs.Common.{◌≡◌, ◌≢◌, ℕ, zero, suc, ◌+◌, ◌-◌, ◌<◌, ◌≤◌, ◌⊎◌, inl, inr, true, false, cond, List, [], ◌∷◌, ◌++◌, map, flat_map, length, get_or, pos, refl, sym, ap, ap₂, subst, ◌∙◌, arith, eq-eqb, ne_eqb, lt-ltb, le-ltb}
-use Rattle.std.specs.Prelude.{nat_lt, ◌==◌, unwrap_or, if◌then◌else◌}
+use Rattle.std.proofs.Common.{◌≡◌, ℕ, zero, suc, ◌+◌, ◌-◌, ◌<◌, ◌≤◌, ◌⊎◌, inl, inr, cond, List, [], ◌∷◌, ◌++◌, map, flat_map, length, get_or, pos, refl, sym, ap, ap₂, subst, ◌∙◌, arith, eq-eqb, ne_eqb, lt-ltb, le-ltb}
+use Rattle.std.specs.Prelude.{nat_lt, unwrap_or, if◌then◌else◌}
 use Rattle.std.proofs.lemmas.List.{map-append}
 use Rattle.std.proofs.lemmas.Grind.{flat_map-append}
 use Rattle.ring_theory.specs.Rational.{Rational, rational, rational_ops}
@@ -23,7 +23,7 @@ use Rattle.cert_text.specs.declared.report.Carried.{Carried}
 use Rattle.cert_text.specs.declared.report.Named as named_type
 use Rattle.report_law.specs.Polynomials.{monomial_in, terms_in, jet_at, value_at, residual_part, zero_element}
 use Rattle.report_law.specs.Items.{residual_of, row_of, basis_of, values_of_row, multipliers_of_row, AreMatherRows, IsMilnorTable}
-use Rattle.one_variable_law.specs.Reports.{whole, power, single, zero_jet, carried_of}
+use Rattle.one_variable_law.specs.Reports.{power, single, zero_jet, carried_of}
 use Rattle.one_variable_law.specs.Rows.{IsInverseMultiple, listed, unit_value}
 use Rattle.one_variable_law.proofs.Powers.{x_to, row_adds_up, row_starts, power_table}
 use Rattle.one_variable_law.proofs.Listed.{listed_at, length_listed, find_listed, listed_last}

@@ -1,5 +1,5 @@
 -- The coefficients of a jet in one variable up to its first term.
-use Rattle.std.proofs.Common.{◌≡◌, ◌≢◌, ℕ, zero, suc, ◌+◌, ◌<◌, ◌≤◌, ◌⊎◌, inl, inr, Bool, true, false, ◌&&◌, ◌||◌, List, [], ◌∷◌, get_or, sum, pos, refl, sym, ap, subst, ◌∙◌, arith, true≢false, eqb, ltb, ltb-true, eqb-true}
+use Rattle.std.proofs.Common.{◌≡◌, ◌≢◌, ℕ, suc, ◌+◌, ◌<◌, ◌≤◌, Bool, true, false, ◌&&◌, ◌||◌, List, [], ◌∷◌, get_or, sum, refl, sym, ap, subst, ◌∙◌, arith, true≢false, ltb-true, eqb-true}
 use Rattle.std.specs.Prelude.{nat_lt, ◌==◌}
 use Rattle.std.specs.List.{AllByRecursion}
 use Rattle.std.proofs.lemmas.List.Elements.{All-head, All-tail}
@@ -7,18 +7,17 @@ use Rattle.std.specs.List.{All}
 use Rattle.ring_theory.specs.Rational.{Rational, rational_ops}
 use Rattle.ring_theory.proofs.RationalLaws.{rational_laws}
 use Rattle.ring_law.specs.declared.fraction.Frac.{Frac}
-use Rattle.ring_law.specs.Fraction.{IsFrac, frac_value, rational_meaning}
+use Rattle.ring_law.specs.Fraction.{IsFrac, frac_value}
 use Rattle.mono_exp.specs.declared.exponent.Exp.{Exp}
 use Rattle.mono_exp.specs.Exponents.{is_before, is_greater_first, IsIn}
 use Rattle.mono_exp.proofs.Lists.{sum-cons}
 use Rattle.jet_law.specs.Terms.{exp_of, poly_of}
-use Rattle.jet_poly.specs.JetTerms.{JetTerms, IsRising, AllAfter}
-use Rattle.jet_poly.specs.Jets.{IsJet}
+use Rattle.jet_poly.specs.JetTerms.{AllAfter}
 use Rattle.poly_law.specs.ExpList.{exps}
 use Rattle.poly_law.specs.Poly.{coefficient}
 use Rattle.poly_law.proofs.ExpLists.{same_entries}
 use Rattle.germ_law.specs.Germ.{RationalPolynomial}
-use Rattle.line_jet_law.specs.LineJets.{IsRationalJet, rational_polynomial}
+use Rattle.line_jet_law.specs.LineJets.{IsRationalJet}
 use Rattle.one_variable_law.specs.Answers.{first_exponent}
 use Rattle.one_variable_law.proofs.Powers.{x_to, one_term, coefficient_first-same, coefficient_first-other}
 

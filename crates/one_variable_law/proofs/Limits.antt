@@ -1,7 +1,6 @@
 -- The functional of a germ with no power up to the order k: it is 1 on u1^(k+1).
-use Rattle.std.proofs.Common.{◌≡◌, ℕ, ◌+◌, ◌≤◌, [], ◌∷◌, List, pos, refl, sym, ap, subst, arith, le-leb, ◌∙◌, ◌&&◌, true}
+use Rattle.std.proofs.Common.{◌≡◌, ℕ, ◌+◌, ◌≤◌, [], ◌∷◌, refl, sym, ap, subst, arith, le-leb, true}
 use Rattle.std.specs.Prelude.{nat_le, sum}
-use Rattle.std.specs.List.{list_all}
 use Rattle.ring_theory.specs.Rational.{rational_ops}
 use Rattle.ring_theory.proofs.RationalLaws.{rational_laws}
 use Rattle.ext_algebra.specs.declared.algebra.Algebra.TheVariants as algebras
@@ -14,7 +13,7 @@ use Rattle.report_law.specs.Polynomials.{monomial_in, terms_in, residual_part}
 use Rattle.report_law.specs.Items.{IsLimitFunctional}
 use Rattle.one_variable_law.specs.Reports.{power, limit_of}
 use Rattle.one_variable_law.proofs.Powers.{x_to, degree_is, zero_on_zero, one_on_itself}
-use Rattle.one_variable_law.proofs.Leading.{rational_term, sum_is_first}
+use Rattle.one_variable_law.proofs.Leading.{rational_term}
 use Rattle.one_variable_law.proofs.Carrying.{report_power}
 use Rattle.one_variable_law.proofs.Bools.{and_both}
 

@@ -1,11 +1,10 @@
 -- The rows of the form c*u1^2, which has no residual variable: none of Mather's test, and one of the quotient.
-use Rattle.std.proofs.Common.{◌≡◌, ◌<◌, [], ◌∷◌, List, length, refl, sym, ap, subst, ◌∙◌, arith}
-use Rattle.ring_theory.specs.Rational.{Rational, rational, rational_ops}
+use Rattle.std.proofs.Common.{◌≡◌, [], ◌∷◌, length, refl, sym, ap, subst, ◌∙◌, arith}
+use Rattle.ring_theory.specs.Rational.{Rational, rational_ops}
 use Rattle.ring_theory.proofs.RationalLaws.{rational_laws}
 use Rattle.ring_law.specs.declared.fraction.Frac.{Frac}
 use Rattle.ext_algebra.specs.declared.algebra.Ext.{Ext}
 use Rattle.ext_algebra.specs.Algebra.{scalars, value_in}
-use Rattle.determinacy.specs.declared.row.MatherRow.{MatherRow}
 use Rattle.milnor_alg.specs.declared.quotient.JetQuotient.{JetQuotient}
 use Rattle.poly_law.specs.Sums.{unit_at}
 use Rattle.poly_law.specs.ExpList.{ExpList, exps}

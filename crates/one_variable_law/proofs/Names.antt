@@ -1,5 +1,5 @@
 -- The names of a line of the grammar are names, and the code keeps their bytes.
-use Rattle.std.proofs.Common.{◌≡◌, ℕ, zero, suc, ◌+◌, ◌-◌, ◌≤◌, true, ◌&&◌, List, [], ◌∷◌, ◌++◌, map, length, take, drop, min, replicate, Option, Some, None, refl, sym, ap, ◌∙◌, arith, get_or, leb-true, le-leb, eq-eqb, true≢false}
+use Rattle.std.proofs.Common.{◌≡◌, ℕ, zero, suc, ◌+◌, ◌-◌, ◌≤◌, true, ◌&&◌, List, [], ◌∷◌, ◌++◌, length, take, drop, min, replicate, Option, Some, None, refl, sym, ap, ◌∙◌, arith, leb-true, le-leb}
 use Rattle.std.specs.Prelude.{nat_le, ◌==◌}
 use Rattle.std.specs.List.{list_all}
 use Rattle.std.proofs.Math.Seq.{take-append_seam, drop-append_seam}

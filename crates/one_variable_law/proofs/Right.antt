@@ -1,6 +1,6 @@
 -- What is answered for a line is right.
-use Rattle.std.proofs.Common.{◌≡◌, ◌≢◌, ℕ, zero, suc, ◌+◌, ◌-◌, ◌^◌, ◌<◌, ◌≤◌, ◌⊎◌, inl, inr, Bool, true, false, cond, ◌&&◌, List, [], ◌∷◌, ◌++◌, map, length, get_or, sum, pos, refl, sym, ap, subst, ◌∙◌, arith, length-append, min, lt-ltb, le-leb, ltb-true, ltb-false}
-use Rattle.std.specs.Prelude.{nat_lt, nat_le, ◌==◌, slice_index_or}
+use Rattle.std.proofs.Common.{◌≡◌, ◌≢◌, ℕ, zero, suc, ◌+◌, ◌-◌, ◌<◌, ◌≤◌, Bool, true, false, cond, ◌&&◌, List, [], ◌∷◌, ◌++◌, map, length, get_or, pos, refl, sym, ap, subst, ◌∙◌, arith, length-append, min, lt-ltb, le-leb, ltb-true, ltb-false}
+use Rattle.std.specs.Prelude.{nat_lt, nat_le, ◌==◌}
 use Rattle.std.specs.List.{list_all}
 use Rattle.std.proofs.lemmas.List.{length-map}
 use Rattle.ring_theory.specs.Rational.{Rational, rational_ops, rational_inv}
@@ -20,10 +20,9 @@ use Rattle.poly_law.specs.ExpList.{ExpList, exps, exp_of}
 use Rattle.poly_law.specs.Exps.{degree, same, variable}
 use Rattle.poly_law.specs.Poly.{coefficient, SameTo}
 use Rattle.line_syntax.specs.Syntax.{Word, Line, names_of, is_name}
-use Rattle.line_syntax.specs.Grammar.{Spells}
 use Rattle.line_syntax.proofs.OneLine.{one_line}
 use Rattle.line_syntax.proofs.Bools.{and_left, and_right}
-use Rattle.germ_law.specs.Germ.{RationalPolynomial, polynomial_of, germ_of, without_constant, linear_coefficient, IsCritical}
+use Rattle.germ_law.specs.Germ.{RationalPolynomial, polynomial_of, germ_of, without_constant}
 use Rattle.line_jet_law.specs.LineJets.{order_limit, IsRationalJet, rational_polynomial}
 use Rattle.line_jet.specs.Reads.{order_of, IsReadHigh}
 use Rattle.line_germ.specs.Names.{name_of}
@@ -45,7 +44,7 @@ use Rattle.one_variable_law.specs.Plan.{IsOneVariable, germ_coefficient, IsFirst
 use Rattle.one_variable_law.specs.Answers.{named_of, IsNamedOf, IsNamedAnswer, IsAnswerByTerms, IsAnswerByNames, IsAnswerToGerm, HasNameableFirst, IsReadGerm, AreRowsOf, IsQuotientOf, first_exponent}
 use Rattle.one_variable_law.proofs.Bools.{and_both}
 use Rattle.one_variable_law.proofs.Names.{line_names, name_text-name_of, name_valid}
-use Rattle.one_variable_law.proofs.Powers.{x_to, degree_is, variable_is, is_power, coefficient_first-other}
+use Rattle.one_variable_law.proofs.Powers.{x_to, variable_is, is_power, coefficient_first-other}
 use Rattle.one_variable_law.proofs.Leading.{coefficient_of, HasFirst, has_first}
 use Rattle.one_variable_law.proofs.Carrying.{IsGermBy, germ_by, shape, invertible, form_carried, zero_carried, first_term}
 use Rattle.one_variable_law.proofs.Inverses.{unit_numerator}

@@ -1,7 +1,7 @@
-use Rattle.std.proofs.Common.{◌≡◌, ◌≢◌, subst, sym, ap, ◌∙◌, arith, pos}
+use Rattle.std.proofs.Common.{◌≡◌, subst, sym, ap, ◌∙◌, arith}
 use Rattle.jet_poly.proofs.Derived.{whole_valid}
 use Rattle.ring_law.specs.Fraction.{IsFrac, Represents, frac_value}
-use Rattle.ring_theory.specs.Rational.{Rational, rational_ops, rational_inv}
+use Rattle.ring_theory.specs.Rational.{rational_ops, rational_inv}
 use Rattle.germ_law.specs.Germ as germs
 use Rattle.one_variable_law.proofs.Inverses.{product_unit, inverse_multiple}
 use Rattle.one_variable.proofs.piece.derivative_inverse.Goals as goal
