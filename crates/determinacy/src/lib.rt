@@ -3,5 +3,7 @@
 
 pub mod laws;
 mod row;
+mod test;
 
 pub use row::{MatherRow, MatherTest};
+pub use test::mather;

@@ -140,9 +140,9 @@ module _ (n low high : ℕ) (ms : List Multiple) (are : AreMultiples n low high 
       let a = (get_or ms i d).factor.e in
       let b = (get_or ms j d).factor.e in
       let later : Later (pair_of n (get_or ms i d)) (pair_of n (get_or ms j d)) =
-              subst (λ p. Later p (pair_of n (get_or ms j d))) (sym (pair_at i d inside))
-              (subst (λ p. Later (get_or (pairs_between n low high) i (pair_of n d)) p) (sym (pair_at j d within))
-              (pairwise-at Later (pairs_between n low high) i j (pair_of n d) less (let e = length_is in omega arith) (pairs_rise n low high))) in
+      subst (λ p. Later p (pair_of n (get_or ms j d))) (sym (pair_at i d inside))
+      (subst (λ p. Later (get_or (pairs_between n low high) i (pair_of n d)) p) (sym (pair_at j d within))
+      (pairwise-at Later (pairs_between n low high) i j (pair_of n d) less (let e = length_is in omega arith) (pairs_rise n low high))) in
       let h = later same in
       let p = rank_is_place n (exponents n a) (length-exponents n a) in
       let q = rank_is_place n (exponents n b) (length-exponents n b) in

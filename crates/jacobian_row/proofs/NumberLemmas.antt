@@ -40,7 +40,7 @@ number_injective n x y e = same_entries n x y (place-injective x.entries y.entri
 pub number_below : (n k : ℕ) (x : ExpList n) → degree (exps n) x ≤ k → number n x < count_to n k
 number_below n k x h =
     let low : place x.entries < count_below n (suc (degree (exps n) x)) =
-            subst (λ d. place x.entries < count_below n (suc d)) (sum-entries n x) (subst (λ m. place x.entries < count_below m (suc (sum x.entries))) x.long (place_below x.entries)) in
+    subst (λ d. place x.entries < count_below n (suc d)) (sum-entries n x) (subst (λ m. place x.entries < count_below m (suc (sum x.entries))) x.long (place_below x.entries)) in
     let up = count-le n (suc (degree (exps n) x)) (suc k) (omega arith) in
     let all = length-monomials_below n (suc k) in
     let p = number-place n x in

@@ -29,8 +29,8 @@ loop-u-preserved g c =
     let same = ap (λ x. poly_of n m.value x.terms) (read ∙ same_default partials u.variable f (record { n = 0; order = 0; terms = [] }) variable) in
     let entries = c.in_ok-row.ensures.entries ∙ ap (product_entries n k u.factor) c.terms.ensures.terms in
     let row : IsRowOf m n (count_to n k) (product_to n m.scalars.ops k (exp_of n u.factor) (polynomial_at n m.value partials u.variable)) c.in_ok-row.row.entries =
-            subst (λ p. IsRowOf m n (count_to n k) (product_to n m.scalars.ops k (exp_of n u.factor) p) c.in_ok-row.row.entries) same
-            (subst (IsRowOf m n (count_to n k) (product_to n m.scalars.ops k (exp_of n u.factor) (poly_of n m.value f.terms))) (sym entries) (product_row m laws n k u.factor unused f jet rising)) in
+    subst (λ p. IsRowOf m n (count_to n k) (product_to n m.scalars.ops k (exp_of n u.factor) p) c.in_ok-row.row.entries) same
+    (subst (IsRowOf m n (count_to n k) (product_to n m.scalars.ops k (exp_of n u.factor) (poly_of n m.value f.terms))) (sym entries) (product_row m laws n k u.factor unused f jet rising)) in
     rw c.in_ok-push.ensures.items (rows_more m n (count_to n k) k partials us i (record { factor = record { e = [] }; variable = 0 }) c.loop-u.rows.items c.in_ok-row.row c.loop-u-test.true c.loop-u.invariant row)
 
 pub returns-clause-rows : goal.returns-clause-rows

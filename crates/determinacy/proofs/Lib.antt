@@ -1,0 +1,4 @@
+pub mod AnswerLemmas
+pub mod HighLemmas
+pub mod FailureLemmas
+pub mod MatherLemmas
