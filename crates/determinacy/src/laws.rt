@@ -1,6 +1,7 @@
 //! What Mather's condition says under changes of coordinates, and what its failure says of a germ.
 
 ghost use Rattle.poly_law.specs.Laws.{MatherKept, LimitMeans};
+ghost use Rattle.determinacy.specs.Tests.{AnswersExclude};
 
 use ring_law::Ring;
 
@@ -13,4 +14,9 @@ pub fn mather_kept<R: Ring>()
 /// part, the germ does not meet Mather's condition at k or below.
 pub fn limit_means<R: Ring>()
     ensures { (r : R) → R.is_ring r → LimitMeans (R.meaning r).scalars.ops }
+{}
+
+/// No jet has both a row of Mather's test for each monomial of degree k + 1 and a functional that excludes the test at k.
+pub fn answers_exclude<R: Ring>()
+    ensures { (r : R) → R.is_ring r → AnswersExclude (R.meaning r) }
 {}
