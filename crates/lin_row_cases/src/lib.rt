@@ -1,11 +1,11 @@
 //! Worked systems of rows, over any field and over the rational numbers.
 #![tactic(auto)]
 
-ghost use Rattle.std.specs.Prelude.{◌≢◌, ◌<◌, All, IfOk, OnOk};
-ghost use Rattle.lin_row.specs.Lines.{IsLine, AllBelow};
-ghost use Rattle.lin_row.specs.Rows.{AreRows};
+ghost use Rattle.std.specs.Prelude.{◌≡◌, ◌≢◌, ◌<◌, ◌+◌, ◌⊎◌, All, IfOk, OnOk};
+ghost use Rattle.lin_row.specs.Lines.{IsLine, AllBelow, EachOf};
+ghost use Rattle.lin_row.specs.Rows.{AreRows, rows_of};
 
-use lin_row::{Row, Solution, reduce, solve, solve_all};
+use lin_row::{Row, Solution, kernel, reduce, solve, solve_all};
 use ring_law::{Fault, Field};
 use sqlite_items::Items;
 use std::alloc::Global;
@@ -99,6 +99,7 @@ fn push_entry<F: Field>(
     requires below { AllBelow next entries.old }
     ensures line { OnOk result (IsLine (F.meaning field.now) entries.new) }
     ensures below { IfOk result (λ n. AllBelow n entries.new) }
+    ensures next { IfOk result (λ n. (n ≡ next) ⊎ (n ≡ column + 1)) }
 {
     if column < next || column == u32::MAX || field.eq(x, field.zero()) {
         return Ok(next);
@@ -159,6 +160,80 @@ pub fn rows_of_ones<F: Field>(
     Ok(rows)
 }
 
+/// The row with these values in the first columns, from 0 on.
+pub fn row_of_values<F: Field>(
+    alloc: Global,
+    field: &F,
+    columns: u32,
+    values: &[F::Elem],
+) -> Result<Row<F::Elem>, Fault>
+    requires ring { F.is_ring field.now }
+    requires elems { All (λ x. (F.meaning field.now).is_elem x) values.now }
+    ensures line { IfOk result (λ r. IsLine (F.meaning field.now) r.entries) }
+    ensures below { IfOk result (λ r. AllBelow columns r.entries) }
+{
+    let mut entries = Items::new(alloc);
+    let mut next = 0;
+    for i in 0..columns {
+        if (i as usize) < values.len() {
+            next = push_entry(field, &mut entries, next, i, values[i as usize])?;
+        }
+    }
+    Ok(Row { entries })
+}
+
+/// The rows with these values in the first columns, from 0 on.
+pub fn rows_of_values<F: Field>(
+    alloc: Global,
+    field: &F,
+    columns: u32,
+    values: &[Vec<F::Elem>],
+) -> Result<Vec<Row<F::Elem>>, Fault>
+    requires ring { F.is_ring field.now }
+    requires elems { All (λ v. All (λ x. (F.meaning field.now).is_elem x) v.items) values.now }
+    ensures rows { IfOk result (λ v. AreRows (F.meaning field.now) v.items) }
+    ensures below { IfOk result (λ v. EachOf (AllBelow columns) (rows_of v.items)) }
+{
+    let mut rows = Vec::new(alloc);
+    for row in values {
+        let next = row_of_values(alloc, field, columns, row)?;
+        rows.push(next)?;
+    }
+    Ok(rows)
+}
+
+/// The reduced form of rows, their kernel, and what solves or excludes a target.
+#[derive(Drop)]
+pub struct Answers<E: Drop> {
+    pub reduced: Vec<Row<E>>,
+    pub kernel: Vec<Row<E>>,
+    pub solution: Solution<E>,
+}
+
+/// All that `lin_row` answers of rows and a target with these values in the first columns.
+pub fn answers_of<F: Field>(
+    alloc: Global,
+    field: &F,
+    columns: u32,
+    values: &[Vec<F::Elem>],
+    target: &[F::Elem],
+) -> Result<Answers<F::Elem>, Fault>
+    requires ring { F.is_ring field.now }
+    requires elems { All (λ v. All (λ x. (F.meaning field.now).is_elem x) v.items) values.now }
+    requires target { All (λ x. (F.meaning field.now).is_elem x) target.now }
+{
+    let rows = rows_of_values(alloc, field, columns, values)?;
+    let target = row_of_values(alloc, field, columns, target)?;
+    let reduced = reduce(alloc, field, &rows)?;
+    let kernel = kernel(alloc, field, &rows, columns)?;
+    let solution = solve(alloc, field, &rows, &target)?;
+    Ok(Answers {
+        reduced,
+        kernel,
+        solution,
+    })
+}
+
 /// What solves or excludes each target, all with entries 1 in these columns.
 pub fn solved_all<F: Field>(
     alloc: Global,
@@ -172,6 +247,9 @@ pub fn solved_all<F: Field>(
     let targets = rows_of_ones(alloc, field, targets)?;
     solve_all(alloc, field, &rows, &targets)
 }
+
+#[cfg(test)]
+mod systems;
 
 #[cfg(test)]
 mod tests {
