@@ -1,4 +1,4 @@
-use Rattle.std.proofs.Common.{◌≤◌, arith}
+use Rattle.std.proofs.Common.{arith}
 use Rattle.lin_row.proofs.SystemLaws
 use Rattle.lin_row_cases.proofs.row_of_values.Goals as goal
 

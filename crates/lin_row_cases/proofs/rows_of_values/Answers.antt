@@ -1,4 +1,3 @@
-use Rattle.std.proofs.Common.{◌++◌, [], ◌∷◌}
 use Rattle.lin_row_cases.proofs.RowLemmas.{rows_push, below_push}
 use Rattle.lin_row_cases.proofs.rows_of_values.Goals as goal
 
