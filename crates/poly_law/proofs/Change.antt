@@ -76,7 +76,7 @@ module _ {E V : Type 0} (x : Exps E) (l : IsExps x) (r : RingOps V) (c : IsCommR
 
   module _ (parts : ℕ → Terms E V) (matrix : ℕ → ℕ → V) (q : IsInvertible x r parts matrix) where
     -- the linear change of the matrix
-    pub back : ℕ → Terms E V
+    unfoldable pub back : ℕ → Terms E V
     back i = Linear.linear x l r c (matrix i)
 
     pub back_starts : (i : ℕ) → i < x.count → StartsAt x r 1 (back i)
