@@ -19,13 +19,13 @@ use Rattle.text_reader.specs.Reading.{IsTextOf}
 use Rattle.text_reader.proofs.PieceTexts.{some_text, some_more}
 use Rattle.text_reader.proofs.ComponentTexts.{zero_of, zero_valid, follows_nothing, follows_more}
 
-abbrev part0 : Frac → List ℕ
+abbrev pub part0 : Frac → List ℕ
 part0 q = flat_map signed_text (component q [])
 
-abbrev part1 : Frac → List ℕ
+abbrev pub part1 : Frac → List ℕ
 part1 q = flat_map signed_text (component q (codes "*t"))
 
-abbrev part2 : Frac → List ℕ
+abbrev pub part2 : Frac → List ℕ
 part2 q = flat_map signed_text (component q (codes "*t^2"))
 
 pub parts_are : (e : Ext Frac) (rest : List ℕ) → components_text e ++ rest ≡ part0 e.c0 ++ (part1 e.c1 ++ (part2 e.c2 ++ rest))

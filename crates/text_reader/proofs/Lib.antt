@@ -10,3 +10,4 @@ pub mod MonomialTexts
 pub mod PieceTexts
 pub mod ComponentTexts
 pub mod ElementTexts
+pub mod ModulusTexts

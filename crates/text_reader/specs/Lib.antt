@@ -4,3 +4,4 @@ pub mod Names
 pub mod Numbers
 pub mod Factors
 pub mod Pieces
+pub mod Moduli

@@ -1,9 +1,11 @@
 //! Readers of the small texts inside a report's lines.
 #![tactic(auto)]
 
+mod algebra;
 mod element;
 mod family;
 mod fraction;
+mod modulus_line;
 mod monomial;
 mod name;
 mod number;
@@ -11,9 +13,11 @@ mod piece;
 mod splitting;
 mod word;
 
+pub use algebra::{read_algebra, read_modulus};
 pub use element::read_element;
 pub use family::read_family;
 pub use fraction::read_fraction;
+pub use modulus_line::read_modulus_line;
 pub use monomial::read_monomial;
 pub use name::read_name;
 pub use number::{read_u8, read_u32, read_u64};
