@@ -1,5 +1,5 @@
 -- The parts of the test's answer.
-use Rattle.std.proofs.Common.{◌≡◌, ◌≢◌, ℕ, zero, suc, ◌+◌, ◌<◌, ◌≤◌, List, [], ◌∷◌, ◌++◌, length, take, get_or, map, refl, sym, ap, ap₂, subst, ◌∙◌, length-take, arith, Vec, Global, Result, Ok, Err, IfOk}
+use Rattle.std.proofs.Common.{◌≡◌, ℕ, zero, suc, ◌+◌, ◌<◌, List, [], ◌∷◌, ◌++◌, length, take, get_or, map, refl, sym, ap, ap₂, subst, ◌∙◌, length-take, arith, Vec, Global, Result, Ok, Err, IfOk}
 use Rattle.std.specs.List.{AllByRecursion}
 use Rattle.std.proofs.lemmas.List.{take_more, map-append}
 use Rattle.ring_theory.specs.Ring.{IsCommRing}
@@ -10,7 +10,6 @@ use Rattle.mono_exp.specs.Exponents.{IsIn, exponents, rank_of}
 use Rattle.lin_row.specs.Lines.{AllBelow, AllUnits, IsRising, dot}
 use Rattle.lin_row.specs.System.{combination, dot_at}
 use Rattle.lin_row.proofs.LineLaws
-use Rattle.lin_row.proofs.BuildLaws
 use Rattle.lin_row.specs.declared.row.Solution.{Solution}
 use Rattle.lin_row.specs.declared.row.Solution.TheVariants.{Solved, Excluded}
 use Rattle.jacobian_row.specs.declared.multiple.Multiple.{Multiple}

@@ -1,23 +1,20 @@
 -- No jet has both rows and a functional that excludes them.
-use Rattle.std.proofs.Common.{◌≡◌, ◌≢◌, ℕ, ◌+◌, List, [], ◌∷◌, length, map, sum, refl, sym, ap, subst, ◌∙◌, arith}
+use Rattle.std.proofs.Common.{◌≡◌, ◌≢◌, ℕ, ◌+◌, List, [], ◌∷◌, map, sum, sym, subst, ◌∙◌}
 use Rattle.std.specs.List.{AllByRecursion}
-use Rattle.ring_theory.specs.Ring.{RingOps, IsCommRing}
+use Rattle.ring_theory.specs.Ring.{IsCommRing}
 use Rattle.ring_theory.specs.Scalars.{Meaning}
-use Rattle.poly_law.specs.ExpList.{ExpList, exps}
+use Rattle.poly_law.specs.ExpList.{exps}
 use Rattle.poly_law.specs.Poly.{MatherRow}
-use Rattle.poly_law.specs.Polynomials.{Polynomial}
 use Rattle.poly_law.proofs.ExpLists.{exps_are}
 use Rattle.poly_law.proofs.Functional
-use Rattle.mono_exp.specs.declared.exponent.Exp.{Exp}
 use Rattle.mono_exp.specs.Exponents.{exponents, monomials_of}
 use Rattle.mono_exp.proofs.Lists.{Each, each-at}
 use Rattle.mono_exp.proofs.OrderLaws.{whole}
 use Rattle.mono_exp.proofs.NumberLemmas.{length-exponents, sum-exponents}
 use Rattle.jet_law.specs.Terms.{exp_of, poly_of}
 use Rattle.jet_law.proofs.TermLemmas.{degree-exp_of}
-use Rattle.jet_poly.specs.JetTerms.{JetTerms}
 use Rattle.jacobian_row.proofs.RowFacts.{monomial-exponents}
-use Rattle.determinacy.specs.Tests.{IsRow, AreRows, IsFailure, AnswersExclude}
+use Rattle.determinacy.specs.Tests.{IsRow, AnswersExclude}
 use Rattle.determinacy.specs.declared.row.MatherRow as rows
 
 pub answers_exclude : {E V : Type 0} (m : Meaning E V) → IsCommRing m.scalars.ops → IsSet V → m.scalars.ops.one ≢ m.scalars.ops.zero → AnswersExclude m

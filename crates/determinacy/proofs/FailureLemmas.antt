@@ -1,21 +1,21 @@
 -- A functional by the numbers of monomials, as a functional on polynomials.
 use mathlib.Core.Path.{fun_ext}
-use Rattle.std.proofs.Common.{◌≡◌, ◌≢◌, ℕ, zero, suc, ◌+◌, ◌<◌, ◌≤◌, ◌⊎◌, inl, inr, Bool, true, false, cond, leb, leb-true, List, [], ◌∷◌, length, get_or, map, sum, refl, sym, ap, ap₂, subst, ◌∙◌, arith}
+use Rattle.std.proofs.Common.{◌≡◌, ◌≢◌, ℕ, zero, suc, ◌+◌, ◌<◌, ◌≤◌, ◌⊎◌, inl, inr, true, cond, List, [], ◌∷◌, length, map, sum, refl, sym, ap, ap₂, subst, ◌∙◌, arith}
 use Rattle.std.specs.List.{AllByRecursion, All}
 use Rattle.std.proofs.lemmas.List.Elements.{All-from_recursion}
 use Rattle.ring_theory.specs.Ring.{RingOps, IsCommRing}
 use Rattle.ring_theory.specs.Scalars.{Meaning}
-use Rattle.poly_law.specs.Sums.{total, unit_at}
+use Rattle.poly_law.specs.Sums.{total}
 use Rattle.poly_law.specs.Exps.{same, degree}
 use Rattle.poly_law.specs.ExpList.{ExpList, exps}
-use Rattle.poly_law.specs.Poly.{coefficient, Same, SameTo, StartsAt, times, term, derivative, cut, value_on}
-use Rattle.poly_law.specs.Polynomials.{Polynomial, term_in}
+use Rattle.poly_law.specs.Poly.{Same, SameTo, StartsAt, times, term, derivative, value_on}
+use Rattle.poly_law.specs.Polynomials.{Polynomial}
 use Rattle.poly_law.proofs.ExpLists.{exps_are}
 use Rattle.poly_law.proofs.Pair
 use Rattle.poly_law.proofs.Pair.{pair, at_only}
 use Rattle.poly_law.proofs.Order
 use Rattle.mono_exp.specs.declared.exponent.Exp.{Exp}
-use Rattle.mono_exp.specs.Exponents.{IsIn, exponents, rank_of, is_before, monomials_below}
+use Rattle.mono_exp.specs.Exponents.{IsIn, exponents, rank_of, is_before}
 use Rattle.mono_exp.proofs.Counting.{before_or_after, place_at_least, count-le, count_below}
 use Rattle.mono_exp.proofs.Lists.{Each, each-map}
 use Rattle.mono_exp.proofs.Table.{length-monomials_below}
@@ -24,12 +24,12 @@ use Rattle.jet_law.proofs.TermLemmas.{degree-exp_of}
 use Rattle.jet_poly.specs.JetTerms as jets
 use Rattle.jet_poly.specs.JetTerms.{JetTerms}
 use Rattle.jet_poly.specs.Jets.{IsJet}
-use Rattle.lin_row.specs.Lines.{AllAfter, AllBelow, AllUnits, IsRising, IsLine, dot, entry}
+use Rattle.lin_row.specs.Lines.{AllAfter, AllBelow, AllUnits, IsRising, entry}
 use Rattle.lin_row.specs.Rows.{rows_of}
 use Rattle.lin_row.specs.System.{RowsVanish}
 use Rattle.lin_row.specs.declared.row.Row.{Row}
 use Rattle.jacobian_row.specs.Numbers.{number, count_to, form_of}
-use Rattle.jacobian_row.specs.Multiples.{AreMultiples, pair_of, pairs_between, multiple_to}
+use Rattle.jacobian_row.specs.Multiples.{AreMultiples, pair_of, multiple_to}
 use Rattle.jacobian_row.specs.Rows.{AreRowsOf, ArePartials}
 use Rattle.jacobian_row.specs.declared.multiple.Multiple.{Multiple}
 use Rattle.jacobian_row.proofs.NumberLemmas.{number-place, number_rises, exp_of-entries, sum-entries}

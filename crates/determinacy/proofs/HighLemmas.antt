@@ -1,5 +1,5 @@
 -- The causes of a refusal, by entries.
-use Rattle.std.proofs.Common.{◌≡◌, ℕ, ◌+◌, ◌⊎◌, inl, inr, List, [], ◌∷◌, map, sym, ap, ap₂, subst, ◌∙◌}
+use Rattle.std.proofs.Common.{◌≡◌, ℕ, ◌+◌, inl, inr, List, [], ◌∷◌, map, sym, ap, subst, ◌∙◌}
 use Rattle.ring_theory.specs.Ring.{IsCommRing}
 use Rattle.ring_theory.specs.Scalars.{Meaning}
 use Rattle.mono_exp.specs.declared.exponent.Exp.{Exp}

@@ -1,20 +1,20 @@
 -- The answer of Mather's test from what solves or excludes each monomial.
-use Rattle.std.proofs.Common.{◌≡◌, ℕ, zero, suc, ◌+◌, ◌<◌, ◌≤◌, ◌⊎◌, inl, inr, List, [], ◌∷◌, length, get_or, map, sum, refl, sym, ap, ap₂, subst, ◌∙◌, arith, Result, Ok, Err, IfOk}
-use Rattle.std.specs.List.{AllByRecursion, All}
+use Rattle.std.proofs.Common.{◌≡◌, ℕ, zero, suc, ◌+◌, ◌<◌, ◌≤◌, inl, inr, List, [], ◌∷◌, length, get_or, map, sum, refl, sym, ap, ap₂, subst, ◌∙◌, arith, Result, Ok, Err, IfOk}
+use Rattle.std.specs.List.{All}
 use Rattle.std.proofs.lemmas.List.Elements.{recursion_from_All}
 use Rattle.ring_theory.specs.Ring.{RingOps, IsCommRing}
 use Rattle.ring_theory.specs.Scalars.{Meaning}
 use Rattle.poly_law.specs.Sums.{unit_at}
 use Rattle.poly_law.specs.Exps.{degree}
 use Rattle.poly_law.specs.ExpList.{ExpList, exps}
-use Rattle.poly_law.specs.Poly.{coefficient, StartsAt, SameTo, times, term, derivative, cut, value_on, combination, IsMatherRow, MatherFails}
+use Rattle.poly_law.specs.Poly.{coefficient, StartsAt, times, term, derivative, cut, value_on}
 use Rattle.poly_law.specs.Polynomials.{Polynomial, StartsAtIn, term_in}
 use Rattle.mono_exp.specs.declared.exponent.Exp.{Exp}
 use Rattle.mono_exp.specs.Exponents.{IsIn, exponents, monomials_of}
 use Rattle.jet_law.specs.Terms.{exp_of, poly_of}
 use Rattle.jet_law.proofs.TermLemmas.{degree-exp_of}
 use Rattle.jet_poly.specs.JetTerms.{JetTerms}
-use Rattle.lin_row.specs.Lines.{AllBelow, EachOf, IsLine, entry}
+use Rattle.lin_row.specs.Lines.{AllBelow, EachOf, entry}
 use Rattle.lin_row.specs.Rows.{rows_of, IsSolved, IsExcluded, IsSolution, AreSolutions}
 use Rattle.lin_row.proofs.BuildLaws.{rows-length}
 use Rattle.lin_row.proofs.SystemLaws
@@ -31,7 +31,7 @@ use Rattle.jacobian_row.proofs.MultiplierLemmas
 use Rattle.jacobian_row.proofs.MultiplierLemmas.{jet_of}
 use Rattle.jacobian_row.proofs.RowFacts
 use Rattle.determinacy.specs.Tests.{IsJetOf, IsRow, AreRows, IsFailure, IsAnswer}
-use Rattle.determinacy.specs.Answers.{IsRowFrom, IsUsable, IsRowBy, AreRowsBy, AreByMonomials, IsFailureBy, IsAnswerBy}
+use Rattle.determinacy.specs.Answers.{IsRowFrom, IsUsable, IsRowBy, AreRowsBy, IsFailureBy, IsAnswerBy}
 use Rattle.determinacy.specs.declared.row.MatherRow.{MatherRow}
 use Rattle.determinacy.specs.declared.row.MatherTest.{MatherTest}
 use Rattle.determinacy.specs.declared.row.MatherTest.TheVariants.{Holds, Fails}

@@ -1,4 +1,4 @@
-use Rattle.std.proofs.Common.{◌≡◌, ◌∙◌, ◌<◌, ◌∷◌, [], length, get_or, length-append, arith}
+use Rattle.std.proofs.Common.{◌<◌, ◌∷◌, [], length, get_or, length-append, arith}
 use Rattle.jacobian_row.proofs.ListSteps.{each_index_push}
 use Rattle.determinacy.specs.Answers.{IsRowBy}
 use Rattle.determinacy.proofs.AnswerLemmas.{row_here, failure_here}

@@ -1,4 +1,4 @@
-use Rattle.std.proofs.Common.{◌≡◌, ◌∙◌, ◌+◌, ◌<◌, ◌≤◌, length, map, sym, ap, subst, arith}
+use Rattle.std.proofs.Common.{◌≡◌, ◌∙◌, ◌+◌, ◌≤◌, length, map, sym, ap, arith}
 use Rattle.std.specs.List.{All}
 use Rattle.ring_theory.proofs.ValueSet.{values_are_set}
 use Rattle.ring_law.proofs.Exits.{fault_handed_on}

@@ -1,4 +1,4 @@
-use Rattle.std.proofs.Common.{◌≡◌, ◌≢◌, ◌∙◌, ◌<◌, ℕ, [], ◌∷◌, true, false, length, refl, sym, ap, subst, take_all, arith}
+use Rattle.std.proofs.Common.{◌≡◌, ◌≢◌, ◌∙◌, ◌<◌, [], ◌∷◌, true, false, length, refl, sym, ap, subst, take_all, arith}
 use Rattle.lin_row.specs.Lines.{AllBelow}
 use Rattle.lin_row.specs.System.{dot_at}
 use Rattle.lin_row.proofs.LineLaws
