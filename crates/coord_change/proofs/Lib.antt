@@ -7,3 +7,5 @@ pub mod KernelVectors
 pub mod RowSteps
 pub mod LinearForms
 pub mod InverseLemmas
+pub mod InverseSteps
+pub mod Negatives

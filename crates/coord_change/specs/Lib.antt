@@ -3,3 +3,4 @@ pub mod Inverses
 pub mod Errors
 pub mod Inversions
 pub mod Linear
+pub mod InverseChanges

@@ -10,4 +10,4 @@ mod tests;
 mod truncated;
 
 pub use power::powers;
-pub use substitution::subst;
+pub use substitution::{push_scaled, subst};

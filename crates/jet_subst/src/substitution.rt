@@ -92,8 +92,10 @@ fn push_multiples<R: Ring>(
     push_scaled(ring, all, t.1, power.terms())
 }
 
-/// Adds the products of c with the terms.
-fn push_scaled<R: Ring>(
+/// Adds the products of c with the terms behind the others.
+///
+/// Errors: `Range` only where one of these products has height 2^120 or more.
+pub fn push_scaled<R: Ring>(
     ring: &R,
     all: &mut Vec<(Exp, R::Elem)>,
     c: R::Elem,
