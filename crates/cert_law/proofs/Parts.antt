@@ -12,8 +12,8 @@ use Rattle.ext_algebra.specs.Fractions.{is_frac}
 use Rattle.ext_algebra.specs.Algebra.{is_algebra}
 use Rattle.jet_poly.specs.JetTerms.{JetTerms}
 use Rattle.line_syntax.specs.Syntax.{is_name, is_letter, is_digit}
-use Rattle.normal_forms.specs.declared.modulus.ModulusLine.{ModulusLine}
-use Rattle.normal_forms.specs.declared.modulus.ModulusLine.TheVariants as moduli
+use Rattle.normal_forms.specs.declared.modulus_line.ModulusLine.{ModulusLine}
+use Rattle.normal_forms.specs.declared.modulus_line.ModulusLine.TheVariants as moduli
 use Rattle.poly_text.specs.declared.name.Name.{Name}
 use Rattle.poly_text.specs.Numbers.{fraction_text, component, signed_text, element_text, is_zero_fraction}
 use Rattle.poly_text.specs.Polynomials.{name_text, polynomial_in, jet_text}

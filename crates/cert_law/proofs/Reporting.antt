@@ -12,8 +12,8 @@ use Rattle.milnor_alg.specs.declared.quotient.TableRow.{TableRow}
 use Rattle.milnor_alg.specs.declared.quotient.JetQuotient.{JetQuotient}
 use Rattle.normal_forms.specs.declared.family.Family.{Family}
 use Rattle.normal_forms.specs.declared.family.Family.TheVariants as families
-use Rattle.normal_forms.specs.declared.modulus.ModulusLine.{ModulusLine}
-use Rattle.normal_forms.specs.declared.modulus.ModulusLine.TheVariants as moduli
+use Rattle.normal_forms.specs.declared.modulus_line.ModulusLine.{ModulusLine}
+use Rattle.normal_forms.specs.declared.modulus_line.ModulusLine.TheVariants as moduli
 use Rattle.normal_forms.specs.Families.{is_family}
 use Rattle.poly_text.specs.Polynomials.{monomial_text}
 use Rattle.cert_text.specs.declared.report.Carried.{Carried}

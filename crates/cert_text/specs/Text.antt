@@ -9,8 +9,8 @@ use Rattle.mono_exp.specs.declared.exponent.Exp.{Exp}
 use Rattle.jet_poly.specs.JetTerms.{JetTerms}
 use Rattle.determinacy.specs.declared.row.MatherRow.{MatherRow}
 use Rattle.milnor_alg.specs.declared.quotient.TableRow.{TableRow}
-use Rattle.normal_forms.specs.declared.modulus.ModulusLine.{ModulusLine}
-use Rattle.normal_forms.specs.declared.modulus.ModulusLine.TheVariants as moduli
+use Rattle.normal_forms.specs.declared.modulus_line.ModulusLine.{ModulusLine}
+use Rattle.normal_forms.specs.declared.modulus_line.ModulusLine.TheVariants as moduli
 use Rattle.poly_text.specs.declared.name.Name.{Name}
 use Rattle.poly_text.specs.Numbers.{fraction_text, component, signed_text, element_text}
 use Rattle.poly_text.specs.Polynomials.{name_text, monomial_text, jet_text}

@@ -15,8 +15,8 @@ use Rattle.determinacy.specs.declared.row.MatherRow.{MatherRow}
 use Rattle.milnor_alg.specs.declared.quotient.TableRow.{TableRow}
 use Rattle.normal_forms.specs.declared.family.Family.{Family}
 use Rattle.normal_forms.specs.declared.family.Family.TheVariants as families
-use Rattle.normal_forms.specs.declared.modulus.ModulusLine.{ModulusLine}
-use Rattle.normal_forms.specs.declared.modulus.ModulusLine.TheVariants as moduli
+use Rattle.normal_forms.specs.declared.modulus_line.ModulusLine.{ModulusLine}
+use Rattle.normal_forms.specs.declared.modulus_line.ModulusLine.TheVariants as moduli
 use Rattle.normal_forms.specs.Families.{is_family}
 use Rattle.poly_text.specs.declared.name.Name.{Name}
 use Rattle.cert_text.specs.declared.report.Carried.{Carried}

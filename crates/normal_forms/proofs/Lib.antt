@@ -1,2 +1,12 @@
 pub mod Squares
 pub mod Members
+pub mod Invariants
+pub mod Residual
+pub mod Padded
+pub mod Sums
+pub mod RingMaps
+pub mod JLines
+pub mod Insertion
+pub mod Kept
+pub mod FormTerms
+pub mod IsForm

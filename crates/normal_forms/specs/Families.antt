@@ -3,6 +3,8 @@
 use Rattle.std.specs.Prelude.{ℕ, ◌+◌, ◌-◌, Bool, true, false, ◌&&◌, ◌||◌, List, [], ◌∷◌, nat_le, ◌==◌, if◌then◌else◌}
 use Rattle.normal_forms.specs.declared.family.Family.{Family}
 use Rattle.normal_forms.specs.declared.family.Family.TheVariants as families
+use Rattle.normal_forms.specs.declared.kind.Kind.{Kind}
+use Rattle.normal_forms.specs.declared.kind.Kind.TheVariants as kinds
 use Rattle.normal_forms.specs.Monomials.{monomials_of}
 
 -- the numbers of a family's name are such as the list of families has
@@ -140,35 +142,27 @@ has_numbers (families.T p q r) = true
 has_numbers _ = false
 
 -- how the unit values and the modulus come from the coefficients: simple families, the T series, P8, X9, J10, the exceptional families
-pub data Kind : Type 0 where
-  simple : Kind
-  hyperbolic : Kind
-  cubic_form : Kind
-  quartic_form : Kind
-  triple : Kind
-  exceptional : Kind
-
 abbrev pub kind_of : Family → Kind
-kind_of (families.A m) = simple
-kind_of (families.D m) = simple
-kind_of families.E6 = simple
-kind_of families.E7 = simple
-kind_of families.E8 = simple
-kind_of families.P8 = cubic_form
-kind_of families.X9 = quartic_form
-kind_of families.J10 = triple
-kind_of (families.T p q r) = hyperbolic
-kind_of families.E12 = exceptional
-kind_of families.E13 = exceptional
-kind_of families.E14 = exceptional
-kind_of families.Z11 = exceptional
-kind_of families.Z12 = exceptional
-kind_of families.Z13 = exceptional
-kind_of families.W12 = exceptional
-kind_of families.W13 = exceptional
-kind_of families.Q10 = exceptional
-kind_of families.Q11 = exceptional
-kind_of families.Q12 = exceptional
-kind_of families.S11 = exceptional
-kind_of families.S12 = exceptional
-kind_of families.U12 = exceptional
+kind_of (families.A m) = kinds.Simple
+kind_of (families.D m) = kinds.Simple
+kind_of families.E6 = kinds.Simple
+kind_of families.E7 = kinds.Simple
+kind_of families.E8 = kinds.Simple
+kind_of families.P8 = kinds.CubicForm
+kind_of families.X9 = kinds.QuarticForm
+kind_of families.J10 = kinds.Triple
+kind_of (families.T p q r) = kinds.Hyperbolic
+kind_of families.E12 = kinds.Exceptional
+kind_of families.E13 = kinds.Exceptional
+kind_of families.E14 = kinds.Exceptional
+kind_of families.Z11 = kinds.Exceptional
+kind_of families.Z12 = kinds.Exceptional
+kind_of families.Z13 = kinds.Exceptional
+kind_of families.W12 = kinds.Exceptional
+kind_of families.W13 = kinds.Exceptional
+kind_of families.Q10 = kinds.Exceptional
+kind_of families.Q11 = kinds.Exceptional
+kind_of families.Q12 = kinds.Exceptional
+kind_of families.S11 = kinds.Exceptional
+kind_of families.S12 = kinds.Exceptional
+kind_of families.U12 = kinds.Exceptional

@@ -3,3 +3,5 @@ pub mod Families
 pub mod Patterns
 pub mod Units
 pub mod Forms
+pub mod Coefficients
+pub mod Distinct

@@ -3,11 +3,7 @@ use Rattle.std.specs.Prelude.{ℕ, zero, suc, ◌+◌, ◌-◌, Bool, ◌&&◌, 
 use Rattle.std.specs.List.{list_all, list_any}
 use Rattle.std.specs.Str.{bytes_eq}
 use Rattle.mono_exp.specs.declared.exponent.Exp.{Exp}
-
--- the numbers 0 to n - 1
-abbrev pub numbers_below : ℕ → List ℕ
-numbers_below zero = []
-numbers_below (suc n) = numbers_below n ++ n ∷ []
+pub use Rattle.mono_exp.specs.Exponents.{numbers_below}
 
 -- the numbers n down to 0
 abbrev pub down_from : ℕ → List ℕ

@@ -1,16 +1,25 @@
 //! Forms of families.
 
-ghost use Rattle.std.specs.Prelude.{◌≡◌, ◌≤◌, ◌↔◌, ◌||◌, not, IsTrue, false, ◌==◌, map, [], ◌∷◌};
+ghost use Rattle.std.specs.Prelude.{◌≡◌, ◌≤◌, ◌↔◌, ◌||◌, not, IsTrue, IsSome, IfSome, IfOk, All, ◌==◌, map, [], ◌∷◌};
 ghost use Rattle.std.specs.List.{list_all, list_any};
 ghost use Rattle.std.specs.Str.{bytes_eq};
-ghost use Rattle.normal_forms.specs.Families.{corank_of, sum_of, has_numbers};
+ghost use Rattle.ring_law.specs.Refusals.{OnFault};
+ghost use Rattle.jet_law.specs.Heights.{IsHigh};
+ghost use Rattle.jet_poly.specs.Jets.{IsJet};
+ghost use Rattle.normal_forms.specs.Families.{corank_of, sum_of};
+ghost use Rattle.normal_forms.specs.Coefficients.{unit_values_in, unit_heights_in};
 ghost use Rattle.normal_forms.specs.Monomials.{in_eight, is_one_of, is_residual};
 ghost use Rattle.normal_forms.specs.Forms.{IsFormOf};
 
+use crate::coefficient::{push_squares, sum_coefficients};
 use crate::family::Family;
 use crate::split::{is_residual_monomial, is_split};
-use jet_poly::Jet;
+use crate::sum::powers;
+use crate::unit::values_of_units;
+use jet_poly::{Jet, JetOf};
 use mono_exp::Exp;
+use ring_law::{Fault, Ring};
+use std::alloc::Global;
 
 /// The number of residual variables of a form of the family.
 pub fn corank(family: Family) -> u8
@@ -27,46 +36,6 @@ pub fn corank(family: Family) -> u8
         | Family::S12
         | Family::U12 => 3,
         _ => 2,
-    }
-}
-
-// The sum of a family without numbers in its name, by the exponents of its monomials.
-fn powers(family: Family) -> &'static [[u8; 3]]
-    ensures { has_numbers family ≡ false → map in_eight result.now ≡ map in_eight (sum_of family) }
-{
-    match family {
-        Family::A(_) | Family::D(_) | Family::T(_, _, _) => &[],
-        Family::E6 => &[[3, 0, 0], [0, 4, 0]],
-        Family::E7 => &[[3, 0, 0], [1, 3, 0]],
-        Family::E8 => &[[3, 0, 0], [0, 5, 0]],
-        Family::P8 => &[
-            [3, 0, 0],
-            [2, 1, 0],
-            [2, 0, 1],
-            [1, 2, 0],
-            [1, 1, 1],
-            [1, 0, 2],
-            [0, 3, 0],
-            [0, 2, 1],
-            [0, 1, 2],
-            [0, 0, 3],
-        ],
-        Family::X9 => &[[4, 0, 0], [3, 1, 0], [2, 2, 0], [1, 3, 0], [0, 4, 0]],
-        Family::J10 => &[[3, 0, 0], [1, 4, 0], [0, 6, 0]],
-        Family::E12 => &[[3, 0, 0], [0, 7, 0], [1, 5, 0]],
-        Family::E13 => &[[3, 0, 0], [1, 5, 0], [0, 8, 0]],
-        Family::E14 => &[[3, 0, 0], [0, 8, 0], [1, 6, 0]],
-        Family::Z11 => &[[3, 1, 0], [0, 5, 0], [1, 4, 0]],
-        Family::Z12 => &[[3, 1, 0], [1, 4, 0], [2, 3, 0]],
-        Family::Z13 => &[[3, 1, 0], [0, 6, 0], [1, 5, 0]],
-        Family::W12 => &[[4, 0, 0], [0, 5, 0], [2, 3, 0]],
-        Family::W13 => &[[4, 0, 0], [1, 4, 0], [0, 6, 0]],
-        Family::Q10 => &[[3, 0, 0], [0, 1, 2], [0, 4, 0], [1, 3, 0]],
-        Family::Q11 => &[[3, 0, 0], [0, 1, 2], [1, 3, 0], [0, 5, 0]],
-        Family::Q12 => &[[3, 0, 0], [0, 1, 2], [0, 5, 0], [1, 4, 0]],
-        Family::S11 => &[[0, 2, 1], [1, 0, 2], [4, 0, 0], [3, 0, 1]],
-        Family::S12 => &[[0, 2, 1], [1, 0, 2], [3, 1, 0], [5, 0, 0]],
-        Family::U12 => &[[3, 0, 0], [0, 3, 0], [0, 0, 4], [1, 1, 2]],
     }
 }
 
@@ -153,4 +122,38 @@ pub fn has_form<E>(family: Family, corank: u8, f: &Jet<E>) -> bool
     ensures { IsTrue result ↔ IsFormOf family f.now.n corank f.now.terms }
 {
     are_form(family, f.n(), corank, f.terms())
+}
+
+/// The values that must be units in a form of the family with this corank, in the order of the list
+/// of families, and then the coefficients of its squares; `None` where the jet is no such form.
+///
+/// The values: of X9 `I^3 - 27*J^2`; of J10 the coefficient of `x^3` and `4*c2^3 + 27*c1*c3^2`; of
+/// P8 none; of an exceptional family all coefficients but that of the modulus monomial; of the
+/// others all coefficients. They are not tested.
+///
+/// Errors: `Range` only where a number that the formula of X9 or J10 forms has height 2^120 or more.
+pub fn is_form<R: Ring>(
+    alloc: Global,
+    ring: &R,
+    family: Family,
+    corank: u8,
+    f: &JetOf<R>,
+) -> Result<Option<Vec<R::Elem>>, Fault>
+    requires ring { R.is_ring ring.now }
+    requires jet { IsJet (R.meaning ring.now) f.now }
+    requires at_most_8_variables { f.now.n ≤ 8 }
+    requires order_at_most_17 { f.now.order ≤ 17 }
+    ensures form { IfOk result (λ o. IsSome o ↔ IsFormOf family f.now.n corank f.now.terms) }
+    ensures elems { IfOk result (λ o. IfSome o (λ v. All (R.meaning ring.now).is_elem v.items)) }
+    ensures values { IfOk result (λ o. IfSome o (λ v. let m = R.meaning ring.now in
+        map m.value v.items ≡ unit_values_in m family f.now.n corank f.now.terms)) }
+    ensures range { OnFault result (let m = R.meaning ring.now in IsHigh (unit_heights_in m family corank f.now.terms)) }
+{
+    if !has_form(family, corank, f) {
+        return Ok(None);
+    }
+    let coefs = sum_coefficients(alloc, ring, family, f)?;
+    let mut values = values_of_units(alloc, ring, family, coefs)?;
+    push_squares(ring, &mut values, corank, f)?;
+    Ok(Some(values))
 }

@@ -2,17 +2,32 @@
 #![tactic(auto)]
 
 mod admission;
+mod assembly;
+mod coefficient;
+mod distinct;
 mod family;
 mod form;
+mod invariant;
+mod j_invariant;
+mod kind;
 mod membership;
 mod milnor;
-mod modulus;
+mod modulus_line;
 mod pattern;
 mod split;
+mod sum;
+mod unit;
 
+pub use assembly::form_of;
 pub use family::Family;
-pub use form::{corank, has_form};
+pub use form::{corank, has_form, is_form};
+pub use invariant::{
+    QUARTIC_DISCRIMINANT, QUARTIC_I, QUARTIC_J, QUARTIC_NUMERATOR, TRIPLE_DISCRIMINANT,
+    TRIPLE_NUMERATOR, quartic_discriminant_of, quartic_invariants, triple_discriminant_of,
+};
+pub use j_invariant::modulus;
+pub use kind::{Kind, family_kind};
 pub use membership::in_pattern;
 pub use milnor::index;
-pub use modulus::ModulusLine;
+pub use modulus_line::ModulusLine;
 pub use pattern::Pattern;

@@ -28,8 +28,8 @@ fn is_square_monomial(c: u8, m: Exp) -> bool
     degree(m) == 2 && has_exponent_2(c, m)
 }
 
-// The square of the variable with this number, counted from 0.
-fn square(variable: u8) -> Exp
+/// The square of the variable with this number, counted from 0.
+pub(crate) fn square(variable: u8) -> Exp
     requires { variable < 8 }
     ensures { result ≡ square_of variable }
 {

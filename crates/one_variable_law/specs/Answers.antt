@@ -9,7 +9,7 @@ use Rattle.line_germ.specs.declared.reading.Germ.{Germ}
 use Rattle.milnor_alg.specs.declared.quotient.JetQuotient.{JetQuotient}
 use Rattle.mono_exp.specs.declared.exponent.Exp.{Exp}
 use Rattle.normal_forms.specs.declared.family.Family.TheVariants as families
-use Rattle.normal_forms.specs.declared.modulus.ModulusLine.TheVariants as modulus_lines
+use Rattle.normal_forms.specs.declared.modulus_line.ModulusLine.TheVariants as modulus_lines
 use Rattle.one_variable_law.specs.Plan.{IsFormHigh}
 use Rattle.one_variable_law.specs.Reports.{rational, form_of, limit_of}
 use Rattle.poly_text.specs.declared.name.Name.{Name}

@@ -8,7 +8,7 @@ use Rattle.jet_poly.specs.JetTerms.{JetTerms}
 use Rattle.line_syntax.specs.Syntax.{Line, first, factor, power, variable}
 use Rattle.normal_forms.specs.declared.family.Family.TheVariants as families
 use Rattle.normal_forms.specs.declared.pattern.Pattern.TheVariants as patterns
-use Rattle.normal_forms.specs.declared.modulus.ModulusLine.TheVariants as moduli
+use Rattle.normal_forms.specs.declared.modulus_line.ModulusLine.TheVariants as moduli
 use Rattle.normal_forms.specs.Monomials.{in_eight}
 use Rattle.poly_text.specs.declared.name.Name.{Name}
 use Rattle.cert_text.specs.declared.report.Carried.{Carried}

@@ -11,7 +11,7 @@ use Rattle.germ_law.specs.Germ.{germ_of, whole, IsCritical}
 use Rattle.report_law.specs.Right.{IsHighLine, IsManyVariables, IsRight}
 use Rattle.line_syntax.specs.Syntax.{Line, names_of}
 use Rattle.normal_forms.specs.declared.family.Family.TheVariants as families
-use Rattle.normal_forms.specs.declared.modulus.ModulusLine.TheVariants as modulus_lines
+use Rattle.normal_forms.specs.declared.modulus_line.ModulusLine.TheVariants as modulus_lines
 use Rattle.one_variable_law.specs.Reports.{form_of, limit_of}
 use Rattle.poly_law.specs.ExpList.{exps, exp_of}
 use Rattle.poly_law.specs.Poly.{coefficient}

@@ -4,8 +4,8 @@ use Rattle.ext_algebra.specs.declared.algebra.Algebra.{Algebra}
 use Rattle.ext_algebra.specs.declared.algebra.Algebra.TheVariants as algebras
 use Rattle.ext_algebra.specs.Fractions.{is_frac}
 use Rattle.ext_algebra.specs.Algebra.{is_algebra, is_element}
-use Rattle.normal_forms.specs.declared.modulus.ModulusLine.{ModulusLine}
-use Rattle.normal_forms.specs.declared.modulus.ModulusLine.TheVariants as lines
+use Rattle.normal_forms.specs.declared.modulus_line.ModulusLine.{ModulusLine}
+use Rattle.normal_forms.specs.declared.modulus_line.ModulusLine.TheVariants as lines
 use Rattle.cert_text.specs.WellFormed.{is_extension}
 
 -- a modulus of degree 2 with valid coefficients
