@@ -18,7 +18,7 @@ pub enum At<E: Drop> {
     Term(E),
 }
 
-/// The stack groups, what stands before the term here, and what was read last.
+/// The frames of the open groups as a stack, what stands before the term here, and what was read last.
 #[derive(Drop)]
 pub struct Calculation<E: Drop> {
     pub stack: Vec<Frame<E>>,
