@@ -1,0 +1,8 @@
+//! Mather's test and the quotient of worked germs.
+#![tactic(auto)]
+
+mod germ;
+#[cfg(test)]
+mod tests;
+
+pub use germ::{quotient_of, test_of};
