@@ -1,6 +1,6 @@
 #!/usr/bin/env bash
 # Times calculations of the lower crates by the program bench_probe: a million products and inverses in a cubic field, a million searches
-# for a root of a cubic, squares of dense jets, and the rows of Mather's test of a dense germ. For each: its two counts, seconds, peak memory.
+# for a root of a cubic, squares of dense jets, the rows of Mather's test of a dense germ, and substitutions. For each: its two counts, seconds, peak memory.
 set -eu
 top="$(cd "$(dirname "${BASH_SOURCE[0]}")/.." && pwd)"
 probe="$top/crates/bench_probe/out/bench_probe"
@@ -18,7 +18,7 @@ timed() {
     wait "$process"
     end="$(date +%s.%N)"
     awk -v words="$*" -v counts="$(cat "$counts")" -v a="$start" -v b="$end" -v peak="$peak" \
-        'BEGIN { printf "%-20s counts %s, seconds %.2f, peak memory %s kB\n", words, counts, b - a, peak }'
+        'BEGIN { printf "%-24s counts %s, seconds %.2f, peak memory %s kB\n", words, counts, b - a, peak }'
     rm -f "$counts"
 }
 
@@ -34,3 +34,6 @@ timed jets 8 12 500
 for order in 6 8 10; do
     timed rows "$order" 4
 done
+timed quadratic 3 12 451 2
+timed linear 8 12 300 2
+timed linear 8 12 300 6
