@@ -11,7 +11,8 @@ use Rattle.line_syntax.specs.Grammar.{Spells}
 use Rattle.line_syntax.proofs.OneLine.{one_line}
 use Rattle.germ_law.specs.Germ.{IsCritical, linear_coefficient}
 use Rattle.normal_forms.specs.Monomials.{is_split, residual_terms}
-use Rattle.report_law.specs.Polynomials.{monomial_in, terms_in, jet_at, value_at, lifted, residual_part}
+use Rattle.jet_law.specs.Canonical.{monomial_in}
+use Rattle.report_law.specs.Polynomials.{terms_in, jet_at, value_at, lifted, residual_part}
 use Rattle.ring_theory.proofs.RationalLaws.{rational_scalar_laws}
 use Rattle.ring_law.specs.declared.fraction.Frac.{Frac}
 use Rattle.ring_law.specs.Fraction.{IsFrac, Represents, frac_value}

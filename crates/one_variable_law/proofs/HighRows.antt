@@ -21,7 +21,8 @@ use Rattle.normal_forms.specs.Monomials.{in_eight, monomials_of, numbers_below, 
 use Rattle.poly_text.specs.declared.name.Name.{Name}
 use Rattle.cert_text.specs.declared.report.Carried.{Carried}
 use Rattle.cert_text.specs.declared.report.Named as named_type
-use Rattle.report_law.specs.Polynomials.{monomial_in, terms_in, jet_at, value_at, residual_part, zero_element}
+use Rattle.jet_law.specs.Canonical.{monomial_in}
+use Rattle.report_law.specs.Polynomials.{terms_in, jet_at, value_at, residual_part, zero_element}
 use Rattle.report_law.specs.Items.{residual_of, row_of, basis_of, values_of_row, multipliers_of_row, AreMatherRows, IsMilnorTable}
 use Rattle.one_variable_law.specs.Reports.{power, single, zero_jet, carried_of}
 use Rattle.one_variable_law.specs.Rows.{IsInverseMultiple, listed, unit_value}

@@ -17,7 +17,8 @@ use Rattle.mono_exp.proofs.Lists.{sum-cons}
 use Rattle.line_syntax.proofs.Bools.{and_left, and_right, or_other}
 use Rattle.normal_forms.specs.Monomials.{is_residual, is_square, is_split, residual_terms, monomials_in, is_one_of, square_of, square_variables}
 use Rattle.cert_text.specs.WellFormed.{is_monomial_in}
-use Rattle.report_law.specs.Polynomials.{monomial_in, terms_in, residual_part}
+use Rattle.jet_law.specs.Canonical.{monomial_in}
+use Rattle.report_law.specs.Polynomials.{terms_in, residual_part}
 
 abbrev is_zero : ℕ → Bool
 is_zero e = e == 0
