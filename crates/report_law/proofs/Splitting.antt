@@ -23,7 +23,8 @@ use Rattle.report_law.specs.Polynomials.{terms_in, residual_part}
 abbrev is_zero : ℕ → Bool
 is_zero e = e == 0
 
-zero_past : (c : ℕ) (m : List ℕ) → list_all is_zero (drop c m) ≡ true → (i : ℕ) → c ≤ i → get_or m i 0 ≡ 0
+-- an exponent past the first c is 0, where all of these are
+pub zero_past : (c : ℕ) (m : List ℕ) → list_all is_zero (drop c m) ≡ true → (i : ℕ) → c ≤ i → get_or m i 0 ≡ 0
 zero_past c [] e i h = refl
 zero_past zero (z ∷ zs) e zero h = eqb-true z 0 (and_left (is_zero z) (list_all is_zero zs) e)
 zero_past zero (z ∷ zs) e (suc i) h = zero_past zero zs (and_right (is_zero z) (list_all is_zero zs) e) i (zero-le)
