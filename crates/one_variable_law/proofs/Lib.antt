@@ -1,5 +1,4 @@
 pub mod Bools
-pub mod Names
 pub mod Powers
 pub mod Leading
 pub mod Carrying

@@ -31,7 +31,7 @@ zero_past zero (z ∷ zs) e (suc i) h = zero_past zero zs (and_right (is_zero z)
 zero_past (suc c) (z ∷ zs) e zero h = absurd (omega arith)
 zero_past (suc c) (z ∷ zs) e (suc i) h = zero_past c zs e i (omega arith)
 
-and_both : (a b : Bool) → a ≡ true → b ≡ true → (a && b) ≡ true
+pub and_both : (a b : Bool) → a ≡ true → b ≡ true → (a && b) ≡ true
 and_both true b e f = f
 and_both false b e f = e
 
