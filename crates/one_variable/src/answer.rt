@@ -7,10 +7,9 @@ ghost use Rattle.report_law.specs.Right.{IsManyVariables, IsRight, IsRightAnswer
 ghost use Rattle.std.specs.List.{list_all};
 ghost use Rattle.std.specs.Prelude.{◌≡◌, ◌≤◌, IfOk, IsTrue, ◌&&◌, not, ◌==◌, nat_lt, length};
 
-use crate::certificate::{mather_rows, quotient};
+use crate::certificate::{mather_rows, milnor_algebra};
 use crate::piece::{
-    carried_jet, form, inverse_of, one, power_of_u1, rational_element, whole_number,
-    zero_polynomial,
+    carried_jet, empty_jet, form, inverse_of, one, power_of_u1, rational_element, whole_number,
 };
 use cert_text::{Answer, Limit, Named, Phase, Report};
 use determinacy::MatherRow;
@@ -65,7 +64,7 @@ fn named_answer(alloc: Global, name: Name, m: u8, c: Frac) -> Result<Answer, All
             });
         }
     };
-    let quotient = match quotient(alloc, m, c) {
+    let quotient = match milnor_algebra(alloc, m, c) {
         Ok(quotient) => quotient,
         Err(Fault::NoMemory) => return Err(AllocError),
         Err(Fault::Range(_)) => {
@@ -84,7 +83,7 @@ fn limit_answer(alloc: Global, name: Name, order: u8) -> Result<Limit, AllocErro
 {
     let value = (power_of_u1(order + 1), rational_element(whole_number(1)));
     Ok(Limit {
-        carried: carried_jet(alloc, name, order, 1, zero_polynomial(alloc, order))?,
+        carried: carried_jet(alloc, name, order, 1, empty_jet(alloc, 1, order))?,
         at: power_of_u1(order + 1),
         functional: one(alloc, value)?,
     })

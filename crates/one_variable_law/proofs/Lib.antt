@@ -1,4 +1,5 @@
 pub mod Bools
+pub mod Listing
 pub mod Powers
 pub mod Leading
 pub mod Carrying
@@ -7,6 +8,9 @@ pub mod Listed
 pub mod Limits
 pub mod Valid
 pub mod Forms
+pub mod Answered
+pub mod Residual
+pub mod Calls
 pub mod HighRows
 pub mod LowRows
 pub mod RowLaws
