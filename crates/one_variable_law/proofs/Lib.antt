@@ -12,7 +12,5 @@ pub mod Answered
 pub mod Residual
 pub mod Calls
 pub mod HighRows
-pub mod LowRows
-pub mod RowLaws
 pub mod Right
 pub mod Examples
