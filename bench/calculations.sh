@@ -37,3 +37,13 @@ done
 timed quadratic 3 12 451 2
 timed linear 8 12 300 2
 timed linear 8 12 300 6
+local_algebra() {
+    timed mather "$@"
+    timed quotient "$@"
+}
+local_algebra 5 'x^3+y^5'
+local_algebra 8 'x^3+3*x^2*y^2+y^7'
+local_algebra 6 'x*y*z+x^4+y^5+z^6'
+local_algebra 3 'x^3+2*x^2*y-x^2*z+3*x*y^2+x*y*z-2*x*z^2+y^3-y^2*z+2*y*z^2+3*z^3'
+local_algebra 12 '[x,y,z] 0'
+local_algebra 16 '[x,y,z] 0'

@@ -54,7 +54,8 @@ use Rattle.cert_text.specs.declared.report.Carried.{Carried}
 use Rattle.cert_text.specs.declared.report.Named as named_type
 use Rattle.cert_text.specs.WellFormed as texts
 use Rattle.cert_text.specs.WellFormed.{is_zero_element, is_term_of, is_residual_monomial, list_limit}
-use Rattle.report_law.specs.Polynomials.{monomial_in, terms_in, jet_at, value_at, zero_element}
+use Rattle.jet_law.specs.Canonical.{monomial_in}
+use Rattle.report_law.specs.Polynomials.{terms_in, jet_at, value_at, zero_element}
 use Rattle.report_law.specs.Items.{residual_of, row_of, basis_of, values_of_row, multipliers_of_row, IsRowOf, AreMatherRows, IsMilnorTable}
 use Rattle.one_variable_law.specs.Reports.{carried_of}
 use Rattle.one_variable_law.proofs.Bools.{and_both}
