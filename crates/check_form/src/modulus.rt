@@ -72,7 +72,7 @@ fn is_j_of_triple(ring: &AlgebraRing, q: Ext<Frac>, coefs: &[Ext<Frac>]) -> Resu
 }
 
 // True where the line is true of a form of the family with these coefficients.
-fn is_line(
+pub(crate) fn is_line(
     ring: &AlgebraRing,
     family: Family,
     coefs: &[Ext<Frac>],

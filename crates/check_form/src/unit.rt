@@ -57,7 +57,7 @@ fn are_inverses<R: Ring>(ring: &R, pairs: &[(R::Elem, R::Elem)]) -> Result<bool,
 
 // True where the first elements of the pairs are the unit values of the form, and each pair's
 // product is 1.
-fn are_units_of<R: Ring>(
+pub(crate) fn are_units_of<R: Ring>(
     alloc: Global,
     ring: &R,
     family: Family,
