@@ -13,3 +13,4 @@ pub mod ElementTexts
 pub mod ModulusTexts
 pub mod TermTexts
 pub mod PolynomialTexts
+pub mod VisibleTexts

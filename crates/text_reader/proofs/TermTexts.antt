@@ -194,7 +194,7 @@ unit_starred : starred unit ≡ []
 unfolding factors_text new_names
 unit_starred = refl
 
-one_starred : (m : Exp) → IsMonomial m → is_one m ≡ true → starred m ≡ []
+pub one_starred : (m : Exp) → IsMonomial m → is_one m ≡ true → starred m ≡ []
 one_starred m is e = ap (λ (es : List ℕ). factors_text new_names es) (zeros_same m.e unit.e is.eight e refl) ∙ unit_starred
 
 pub not_one : (m : Exp) (x : List ℕ) → IsMonomial m → starred m ≡ 42 ∷ x → is_one m ≡ false
@@ -322,7 +322,7 @@ simple_open t s sign inside y e =
 
 -- ---- more components
 
-component_all : (P : ℕ → Type 0) → Admits P → P 116 → P 94 → P 43 → P 45 → (power : Power) (t : Bool) (q : Frac) → IsTrue (is_frac q) → AllByRecursion P (flat_map signed_text (cond t [] (product_text q (body_of power) ∷ [])))
+pub component_all : (P : ℕ → Type 0) → Admits P → P 116 → P 94 → P 43 → P 45 → (power : Power) (t : Bool) (q : Frac) → IsTrue (is_frac q) → AllByRecursion P (flat_map signed_text (cond t [] (product_text q (body_of power) ∷ [])))
 component_all P adm t_is caret plus minus power true q valid = tt
 component_all P adm t_is caret plus minus power false q valid =
     let p = piece_shape P adm t_is caret power q valid in
@@ -332,7 +332,7 @@ component_all P adm t_is caret plus minus power false q valid =
     by_sign b (inl e) = subst P (sym e) plus
     by_sign b (inr e) = subst P (sym e) minus
 
-without_all : (P : ℕ → Type 0) → P 48 → (xs : List ℕ) → AllByRecursion P xs → AllByRecursion P (without_plus xs)
+pub without_all : (P : ℕ → Type 0) → P 48 → (xs : List ℕ) → AllByRecursion P xs → AllByRecursion P (without_plus xs)
 without_all P zero_is [] h = (zero_is, tt)
 without_all P zero_is (b ∷ bs) h = by_test (eqb b 43)
   where
