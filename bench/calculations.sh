@@ -1,6 +1,7 @@
 #!/usr/bin/env bash
 # Times calculations of the lower crates by the program bench_probe: a million products and inverses in a cubic field, a million searches
-# for a root of a cubic, squares of dense jets, the rows of Mather's test of a dense germ, and substitutions. For each: its two counts, seconds, peak memory.
+# for a root of a cubic, squares of dense jets, the rows of Mather's test of a dense germ, substitutions, and
+# Mather's test and the quotient of the germs of lines. For each: its two counts, seconds, peak memory.
 set -eu
 top="$(cd "$(dirname "${BASH_SOURCE[0]}")/.." && pwd)"
 probe="$top/crates/bench_probe/out/bench_probe"
@@ -47,3 +48,4 @@ local_algebra 6 'x*y*z+x^4+y^5+z^6'
 local_algebra 3 'x^3+2*x^2*y-x^2*z+3*x*y^2+x*y*z-2*x*z^2+y^3-y^2*z+2*y*z^2+3*z^3'
 local_algebra 12 '[x,y,z] 0'
 local_algebra 16 '[x,y,z] 0'
+local_algebra 12 'x^3+y^3+z^3+2*x*y*z+x^4+2*y^4+3*z^4+x^2*y^2'

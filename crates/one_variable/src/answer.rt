@@ -160,8 +160,8 @@ fn report(alloc: Global, line: &[u8], limit: u8) -> Result<Report, AllocError>
 /// with its place, and `Range` in the phase `Line` comes only where reading the line forms a number of height 2^120 or
 /// more. A critical line in more than one variable is `Unbuilt`. In one variable let c*x^m be the term of least degree
 /// of the germ. For m up to the limit the answer is A(m-1) with order m, the identity change and the form `c*u1^m`;
-/// `Range` in the phases `Mather` and `Milnor` comes in its place only where Mather's test of the residual part at m, or its quotient, forms a number
-/// of height 2^120 or more. Where there is no such term the answer is `Limit` at the limit, with the functional that is 1 on `u1^(limit + 1)`.
+/// `Range` in the phases `Mather` and `Milnor` comes in its place only where m is at least 3 and Mather's test of c*x^m at m, or its quotient, forms a
+/// number of height 2^120 or more. Where there is no such term the answer is `Limit` at the limit, with the functional that is 1 on `u1^(limit + 1)`.
 ///
 /// Source: Arnold, Gusein-Zade, Varchenko, Singularities of Differentiable Maps, volume 1.
 pub fn classify(alloc: Global, line: &[u8], limit: u8) -> Result<Report, NoMemory>

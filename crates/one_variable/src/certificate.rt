@@ -30,7 +30,7 @@ fn residual_part(alloc: Global, m: u8, c: Frac) -> Result<Jet<Ext<Frac>>, AllocE
 
 /// The rows of Mather's test at m of the form `c*u1^m`; none where m is 2.
 ///
-/// Errors: `Range` only where Mather's test of the residual part forms a number of height 2^120 or more.
+/// Errors: `Range` only where m is at least 3 and Mather's test of the form at m forms a number of height 2^120 or more.
 pub fn mather_rows(alloc: Global, m: u8, c: Frac) -> Result<Items<MatherRow<Ext<Frac>>>, Fault>
     requires { IsNameable m c }
     ensures rows { IfOk result (AreRowsOf m c) }
@@ -45,7 +45,7 @@ pub fn mather_rows(alloc: Global, m: u8, c: Frac) -> Result<Items<MatherRow<Ext<
 
 /// The Milnor algebra of the form `c*u1^m` up to order m: a basis and its table.
 ///
-/// Errors: `Range` only where the quotient of the residual part forms a number of height 2^120 or more.
+/// Errors: `Range` only where m is at least 3 and the quotient of the form at m forms a number of height 2^120 or more.
 pub fn milnor_algebra(alloc: Global, m: u8, c: Frac) -> Result<JetQuotient<Ext<Frac>>, Fault>
     requires { IsNameable m c }
     ensures quotient { IfOk result (IsQuotientOf m c) }

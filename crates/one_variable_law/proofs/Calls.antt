@@ -2,7 +2,6 @@
 use Rattle.std.proofs.Common.{◌≡◌, ◌≢◌, ℕ, ◌≤◌, Bool, true, false, cond, List, length, sym, subst, arith, Result, Ok, Err, IfOk}
 use Rattle.std.specs.Prelude.{◌==◌}
 use Rattle.ring_theory.specs.Rational.{rational_ops}
-use Rattle.ring_theory.specs.Height.{rational_scalars}
 use Rattle.ring_theory.specs.Scalars.{HasInverses}
 use Rattle.ring_theory.proofs.RationalLaws.{rational_inverts}
 use Rattle.ring_law.specs.declared.fraction.Frac.{Frac}
@@ -29,7 +28,7 @@ use Rattle.one_variable_law.specs.Plan.{IsFormHigh}
 use Rattle.one_variable_law.specs.Reports.{rational, corank_of, single, residual_jet}
 use Rattle.one_variable_law.proofs.Answered
 use Rattle.one_variable_law.proofs.Answered.{meaning}
-use Rattle.one_variable_law.proofs.Residual.{residual_is_jet, residual_low, residual_polynomial, form_residual, residual_holds}
+use Rattle.one_variable_law.proofs.Residual.{residual_is_jet, residual_low, test_high, quotient_high, form_residual, residual_holds}
 use Rattle.one_variable_law.proofs.Valid.{fraction_valid, element_valid}
 
 -- a valid fraction as an element
@@ -68,14 +67,6 @@ module _ (m : ℕ) (c : Frac) (h : IsNameable m c) where
         table = λ name. Answered.table_valid m h.at_most (residual_jet m c) few name (single m c m) low q is;
       }
 
-  pub test_high : IsTestHigh (corank_of m) (scalars algebras.Rational) m (polynomial_of meaning (residual_jet m c)) → IsFormHigh phases.Mather m (frac_value c)
-  unfolding scalars
-  test_high high = subst (IsTestHigh (corank_of m) rational_scalars m) (residual_polynomial c h.valid h.unit m h.at_least) high
-
-  pub quotient_high : IsQuotientHigh (corank_of m) (scalars algebras.Rational) m (polynomial_of meaning (residual_jet m c)) → IsFormHigh phases.Milnor m (frac_value c)
-  unfolding scalars
-  quotient_high high = subst (IsQuotientHigh (corank_of m) rational_scalars m) (residual_polynomial c h.valid h.unit m h.at_least) high
-
   -- ---- of a jet that is the residual part
 
   module _ (g : JetTerms (Ext Frac)) (is : g ≡ residual_jet m c) where
@@ -93,11 +84,11 @@ module _ (m : ℕ) (c : Frac) (h : IsNameable m c) where
         residual_holds c h.valid h.unit m h.at_least h.at_most functional at (subst (λ g. tests.IsFailure meaning g m functional at) is (subst (tests.IsAnswer meaning g m) e by))
 
     pub high_test : IsTestHigh g.n (scalars algebras.Rational) m (polynomial_of meaning g) → IsFormHigh phases.Mather m (frac_value c)
-    high_test high = test_high (subst (λ g. IsTestHigh g.n (scalars algebras.Rational) m (polynomial_of meaning g)) is high)
+    high_test high = test_high c h.valid h.unit m h.at_least (subst (λ g. IsTestHigh g.n (scalars algebras.Rational) m (polynomial_of meaning g)) is high)
 
     pub answered : {X : Type 0} (result : Result (JetQuotient (Ext Frac)) X) → IfOk result (quotients.IsQuotientOf meaning g m) → IfOk result (IsQuotientOf m c)
     answered (Err x) by = tt
     answered (Ok q) by = quotient_is q (subst (λ g. quotients.IsQuotientOf meaning g m q) is by)
 
     pub high_quotient : IsQuotientHigh g.n (scalars algebras.Rational) m (polynomial_of meaning g) → IsFormHigh phases.Milnor m (frac_value c)
-    high_quotient high = quotient_high (subst (λ g. IsQuotientHigh g.n (scalars algebras.Rational) m (polynomial_of meaning g)) is high)
+    high_quotient high = quotient_high c h.valid h.unit m h.at_least (subst (λ g. IsQuotientHigh g.n (scalars algebras.Rational) m (polynomial_of meaning g)) is high)

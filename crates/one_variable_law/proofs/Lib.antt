@@ -8,6 +8,7 @@ pub mod Listed
 pub mod Limits
 pub mod Valid
 pub mod Forms
+pub mod NoVariables
 pub mod Answered
 pub mod Residual
 pub mod Calls

@@ -15,7 +15,6 @@ use Rattle.ext_algebra.proofs.ElementTests.{is_element-IsElement}
 use Rattle.poly_law.specs.Sums.{multiple}
 use Rattle.poly_law.specs.Exps.{degree}
 use Rattle.poly_law.specs.ExpList.{ExpList, exps}
-use Rattle.poly_law.specs.ExpList as lists
 use Rattle.poly_law.specs.Poly.{Terms, coefficient, MatherRow, MatherFails, StartsAt}
 use Rattle.poly_law.specs.Polynomials.{StartsAtIn}
 use Rattle.poly_law.proofs.ExpLists.{exps_are}
@@ -27,14 +26,15 @@ use Rattle.jet_poly.specs.JetTerms.{JetTerms}
 use Rattle.jet_poly.specs.Jets.{IsJet, polynomial_of}
 use Rattle.jet_poly.proofs.Derived.{whole-mul}
 use Rattle.germ_law.specs.Germ.{whole}
-use Rattle.determinacy.specs.Tests.{IsFailure}
+use Rattle.determinacy.specs.Tests.{IsFailure, IsTestHigh}
+use Rattle.jet_quotient.specs.Quotients.{IsQuotientHigh}
 use Rattle.normal_forms.specs.Monomials.{residual_terms}
 use Rattle.normal_forms.proofs.Padded.{in_eight-in}
 use Rattle.poly_text.specs.declared.name.Name.{Name}
 use Rattle.report_law.specs.Polynomials.{terms_in, residual_part}
 use Rattle.report_law.specs.Items as items
 use Rattle.one_variable_law.specs.Answers.{IsNameable}
-use Rattle.one_variable_law.specs.Plan.{residual_of}
+use Rattle.one_variable_law.specs.Plan.{IsPowerTestHigh, IsPowerQuotientHigh}
 use Rattle.one_variable_law.specs.Reports as reports
 use Rattle.one_variable_law.specs.Reports.{power, corank_of, residual_jet, form_of}
 use Rattle.one_variable_law.proofs.Answered.{meaning}
@@ -43,6 +43,7 @@ use Rattle.one_variable_law.proofs.Forms.{by_power, form_by}
 use Rattle.one_variable_law.proofs.Inverses.{product_unit}
 use Rattle.one_variable_law.proofs.Leading.{rational_term}
 use Rattle.one_variable_law.proofs.Limits.{degree_of_power}
+use Rattle.one_variable_law.proofs.NoVariables.{no_test_high, no_quotient_high}
 use Rattle.one_variable_law.proofs.Powers.{x_to, is_power, by_powers, degree_is, coefficient_other, row_adds_up, row_starts}
 use Rattle.one_variable_law.proofs.Valid.{fraction_valid, element_valid}
 
@@ -108,11 +109,21 @@ module _ (c : Frac) (valid : IsFrac c) (unit : frac_value c ≢ rational_ops.zer
   pub residual_low : (m : ℕ) → 2 ≤ m → StartsAtIn (corank_of m) (ops algebras.Rational) 2 (polynomial_of meaning (residual_jet m c))
   residual_low m two = by_power (λ b s m. StartsAt (exps (cond b 0 1)) (ops algebras.Rational) 2 (polynomial_of meaning (residual_by b m c))) (λ a d. refl) high_low m two
 
-  -- it is the polynomial that the least power decides
-  pub residual_polynomial : (m : ℕ) → 2 ≤ m → polynomial_of meaning (residual_jet m c) ≡ residual_of (corank_of m) m v
-  residual_polynomial m two = by_power (λ b s m. polynomial_of meaning (residual_by b m c) ≡ cond b [] ((lists.exp_of (cond b 0 1) (λ i. m), v) ∷ [])) refl (λ s h. high_polynomial (suc s)) m two
+  -- why the calls are refused
+  pub test_high : (m : ℕ) → 2 ≤ m → IsTestHigh (corank_of m) (scalars algebras.Rational) m (polynomial_of meaning (residual_jet m c)) → IsPowerTestHigh m v
+  unfolding scalars
+  test_high m two high =
+      by_power (λ b s m. IsTestHigh (cond b 0 1) rational_scalars m (polynomial_of meaning (residual_by b m c)) → IsPowerTestHigh m v) (λ h. absurd (no_test_high rational_scalars h))
+      (λ s l h. record { residual = omega arith; is_high = subst (IsTestHigh 1 rational_scalars (suc s)) (high_polynomial (suc s)) h }) m two high
 
-  -- and the residual part of the form
+  pub quotient_high : (m : ℕ) → 2 ≤ m → IsQuotientHigh (corank_of m) (scalars algebras.Rational) m (polynomial_of meaning (residual_jet m c)) → IsPowerQuotientHigh m v
+  unfolding scalars
+  quotient_high m two high =
+      by_power (λ b s m. IsQuotientHigh (cond b 0 1) rational_scalars m (polynomial_of meaning (residual_by b m c)) → IsPowerQuotientHigh m v) (λ h. absurd (no_quotient_high rational_scalars h))
+      (λ s l h. record { residual = omega arith; is_high = subst (IsQuotientHigh 1 rational_scalars (suc s)) (high_polynomial (suc s)) h }) m two high
+
+  -- ---- it is the residual part of the form
+
   low_residual : (name : Name) → items.residual_of (form_by true name 2 c) ≡ polynomial_of meaning (residual_by true 2 c)
   unfolding terms_in residual_part residual_terms
   low_residual name = refl

@@ -14,7 +14,7 @@ use Rattle.report_law.specs.Right.{IsHighLine, IsManyVariables, IsRight}
 use Rattle.line_syntax.specs.Syntax.{Line, names_of}
 use Rattle.normal_forms.specs.declared.family.Family.TheVariants as families
 use Rattle.normal_forms.specs.declared.modulus_line.ModulusLine.TheVariants as modulus_lines
-use Rattle.one_variable_law.specs.Reports.{corank_of, form_of, limit_of}
+use Rattle.one_variable_law.specs.Reports.{form_of, limit_of}
 use Rattle.poly_law.specs.ExpList.{exps, exp_of}
 use Rattle.poly_law.specs.Poly.{coefficient}
 use Rattle.poly_law.specs.Polynomials.{Polynomial}
@@ -23,7 +23,7 @@ use Rattle.ring_law.specs.Fraction.{frac_value}
 use Rattle.ring_law.specs.declared.fraction.Frac.{Frac}
 use Rattle.ring_theory.specs.Height.{rational_scalars}
 use Rattle.ring_theory.specs.Rational.{Rational, rational_ops}
-use Rattle.std.specs.Prelude.{◌≡◌, ◌≢◌, ℕ, ◌-◌, ◌<◌, ◌≤◌, List, [], ◌∷◌, length, ◌==◌, if◌then◌else◌}
+use Rattle.std.specs.Prelude.{◌≡◌, ◌≢◌, ℕ, ◌-◌, ◌<◌, ◌≤◌, List, [], ◌∷◌, length}
 
 -- the bytes are a critical line in one variable
 pub record IsOneVariable (bytes : List ℕ) (l : Line) : Type 0 where
@@ -40,14 +40,24 @@ pub record IsFirstTerm (l : Line) (m : ℕ) (v : Rational) : Type 0 where
   pub unit : v ≢ rational_ops.zero
   pub least : (w : ℕ) → w < m → germ_coefficient l w ≡ rational_ops.zero
 
--- the residual part of v*x^m as a polynomial in n variables: in v*x^2 the variable is a square variable
-abbrev pub residual_of : (n : ℕ) → ℕ → Rational → Polynomial n Rational
-residual_of n m v = if m == 2 then [] else (exp_of n (λ i. m), v) ∷ []
+-- v*x^m as a polynomial in x
+abbrev pub power_term : ℕ → Rational → Polynomial 1 Rational
+power_term m v = (exp_of 1 (λ i. m), v) ∷ []
 
--- a number of the certificate of v*x^m is too large in this phase: Mather's test of its residual part at m is high, or the quotient is
+-- v*x^m has a residual variable, and Mather's test at m is high
+pub record IsPowerTestHigh (m : ℕ) (v : Rational) : Type 0 where
+  pub residual : 3 ≤ m
+  pub is_high : IsTestHigh 1 rational_scalars m (power_term m v)
+
+-- v*x^m has a residual variable, and the quotient at m is high
+pub record IsPowerQuotientHigh (m : ℕ) (v : Rational) : Type 0 where
+  pub residual : 3 ≤ m
+  pub is_high : IsQuotientHigh 1 rational_scalars m (power_term m v)
+
+-- a number of the certificate of v*x^m is too large in this phase
 abbrev pub IsFormHigh : Phase → ℕ → Rational → Type 0
-IsFormHigh phases.Mather m v = IsTestHigh (corank_of m) rational_scalars m (residual_of (corank_of m) m v)
-IsFormHigh phases.Milnor m v = IsQuotientHigh (corank_of m) rational_scalars m (residual_of (corank_of m) m v)
+IsFormHigh phases.Mather m v = IsPowerTestHigh m v
+IsFormHigh phases.Milnor m v = IsPowerQuotientHigh m v
 IsFormHigh phases.Line m v = ⊥
 IsFormHigh phases.Hessian m v = ⊥
 IsFormHigh phases.Split m v = ⊥
