@@ -1,14 +1,6 @@
 -- Which lines get which answer: two kinds of answers exclude each other, since bytes spell one line.
-use Rattle.std.proofs.Common.{◌≡◌, ℕ, ◌+◌, ◌<◌, ◌≤◌, ◌⊎◌, inl, inr, true, List, [], ◌∷◌, ◌++◌, length, IsTrue, refl, sym, ap, ap₂, subst, ◌∙◌, arith, leb-true, append_assoc}
-use Rattle.std.specs.Prelude.{nat_le, slice_index_or}
-use Rattle.std.specs.List.{list_all}
-use Rattle.std.proofs.lemmas.List.Folds.{list_all-append}
-use Rattle.line_syntax.specs.Syntax.{Word, Line, Token, number, number_of, names_of, tokens_of}
-use Rattle.line_syntax.specs.Grammar.{IsSpaced, Spells, IsSyntaxError, IsLiteralError, has_small_literals, is_small_token, literal_limit}
-use Rattle.line_syntax.proofs.Bools.{and_left, and_right}
-use Rattle.line_syntax.proofs.OneLine.{one_line}
-use Rattle.line_reader.proofs.Held.{spaced_append, one_spaced}
-use Rattle.germ_law.specs.Germ.{IsCritical, IsFirstLinear}
+use Rattle.std.proofs.Common.{◌≡◌, ℕ, ◌+◌, ◌<◌, ◌≤◌, ◌⊎◌, inl, inr, List, length, refl, sym, ap, ap₂, subst, ◌∙◌, arith}
+use Rattle.line_syntax.specs.Syntax.{Word, Line}
 use Rattle.poly_text.specs.declared.name.Name.{Name}
 use Rattle.poly_text.specs.declared.what.What.{What}
 use Rattle.poly_text.specs.Polynomials.{name_text}
@@ -20,7 +12,7 @@ use Rattle.cert_text.specs.declared.report.Phase.TheVariants as phases
 use Rattle.cert_text.specs.declared.report.Phase.{Phase}
 use Rattle.cert_text.specs.declared.report.Report.{Report}
 use Rattle.cert_text.specs.declared.report.Report.TheVariants as reports
-use Rattle.report_law.proofs.Exclusions.{Spelled, large_spelled, small_excludes, grammar_excludes, critical_excludes, one_front, one_place, one_variable_name}
+use Rattle.report_law.proofs.Exclusions.{large_spelled, small_excludes, grammar_excludes, critical_excludes, one_front, one_variable_name}
 use Rattle.report_law.specs.Items.{IsSyntaxRefusal, IsLiteralRefusal, IsNotCritical}
 use Rattle.report_law.specs.Right.{IsManyVariables, IsRead, IsRightAnswer}
 use Rattle.line_germ.specs.Answers.{what_at}

@@ -1,18 +1,17 @@
 -- The answers of Mather's test and of the quotient over the rational numbers, at the order k of a jet g in at most one variable, as rows, basis and table
 -- of a report whose residual part is g.
 use mathlib.Core.Path.{fun_ext}
-use Rattle.std.proofs.Common.{◌≡◌, ◌≢◌, ℕ, zero, suc, ◌+◌, ◌<◌, ◌≤◌, ◌⊎◌, inl, inr, Bool, true, false, not, cond, IsTrue, ◌&&◌, pos, int_eq, List, [], ◌∷◌, ◌++◌, map, length, get_or, sum, Option, Some, None, refl, sym, ap, ap₂, subst, ◌∙◌, arith, le-leb}
+use Rattle.std.proofs.Common.{◌≡◌, ◌≢◌, ℕ, zero, suc, ◌+◌, ◌<◌, ◌≤◌, ◌⊎◌, inl, inr, Bool, true, false, not, cond, ◌&&◌, pos, int_eq, List, [], ◌∷◌, ◌++◌, map, length, get_or, sum, Option, Some, None, refl, sym, ap, subst, ◌∙◌, arith, le-leb}
 use Rattle.std.specs.Prelude.{nat_le, find, unwrap_or}
 use Rattle.std.specs.List.{All, AllByRecursion, filter, list_all}
 use Rattle.std.proofs.lemmas.List.{length-map}
 use Rattle.std.proofs.lemmas.List.Elements.{All-head, All-tail}
 use Rattle.std.proofs.lemmas.Bool.Decides.{Decides-int_eq}
-use Rattle.ring_theory.specs.Rational.{Rational, rational_ops}
+use Rattle.ring_theory.specs.Rational.{Rational}
 use Rattle.ring_theory.specs.Scalars.{Meaning}
 use Rattle.ring_theory.specs.Ring.{RingOps, IsCommRing}
 use Rattle.ring_theory.proofs.RationalLaws.{rational_laws, rational_scalar_laws}
 use Rattle.ring_law.specs.declared.fraction.Frac.{Frac}
-use Rattle.ring_law.specs.Fraction.{frac_value}
 use Rattle.ring_law.proofs.FractionLaws.{zero_value}
 use Rattle.ext_algebra.specs.declared.algebra.Algebra.TheVariants as algebras
 use Rattle.ext_algebra.specs.declared.algebra.Ext.{Ext}
@@ -23,7 +22,7 @@ use Rattle.poly_law.specs.Sums.{sum_to}
 use Rattle.poly_law.specs.Exps.{degree, none, same}
 use Rattle.poly_law.specs.ExpList.{ExpList, exps}
 use Rattle.poly_law.specs.ExpList as lists
-use Rattle.poly_law.specs.Poly.{Terms, coefficient, times, derivative, term, combination, of_basis, poly_ops, StartsAt, SameTo, IsMatherRow, IsQuotientTable}
+use Rattle.poly_law.specs.Poly.{coefficient, times, derivative, term, of_basis, poly_ops, StartsAt, IsMatherRow, IsQuotientTable}
 use Rattle.poly_law.specs.Polynomials.{Polynomial, StartsAtIn}
 use Rattle.poly_law.proofs.ExpLists.{exps_are}
 use Rattle.poly_law.proofs.ExpLaws
@@ -67,34 +66,41 @@ meaning = algebra_meaning algebras.Rational
 
 -- ---- entries of lists, by their values
 
+-- an entry has the same value by two defaults of the same value
 by_default : {X Y : Type 0} (f : X → Y) (xs : List X) (i : ℕ) (d e : X) → f d ≡ f e → f (get_or xs i d) ≡ f (get_or xs i e)
 by_default f [] i d e h = h
 by_default f (x ∷ xs) zero d e h = refl
 by_default f (x ∷ xs) (suc i) d e h = by_default f xs i d e h
 
+-- the value of an entry is the entry of the values
 image_at : {X Y : Type 0} (f : X → Y) (xs : List X) (i : ℕ) (d : X) (z : Y) → f d ≡ z → f (get_or xs i d) ≡ get_or (map f xs) i z
 image_at f [] i d z h = h
 image_at f (x ∷ xs) zero d z h = refl
 image_at f (x ∷ xs) (suc i) d z h = image_at f xs i d z h
 
+-- what is found has the same value by two defaults of the same value
 found_or : {X Y : Type 0} (f : X → Y) (o : Option X) (d e : X) → f d ≡ f e → f (unwrap_or o d) ≡ f (unwrap_or o e)
 found_or f None d e h = h
 found_or f (Some x) d e h = refl
 
+-- what holds of each element gives what holds of each image
 each_image : {X Y : Type 0} (P : X → Type 0) (Q : Y → Type 0) (f : X → Y) → ((x : X) → P x → Q (f x)) → (xs : List X) → AllByRecursion P xs → AllByRecursion Q (map f xs)
 each_image P Q f h [] all = tt
 each_image P Q f h (x ∷ xs) all = (h x all.0, each_image P Q f h xs all.1)
 
+-- what holds of each element gives what is weaker
 weaker : {X : Type 0} (P Q : X → Type 0) → ((x : X) → P x → Q x) → (xs : List X) → AllByRecursion P xs → AllByRecursion Q xs
 weaker P Q h [] all = tt
 weaker P Q h (x ∷ xs) all = (h x all.0, weaker P Q h xs all.1)
 
+-- elements that pass a test one by one pass it as a list
 list_passes : {X : Type 0} (P : X → Type 0) (p : X → Bool) → ((x : X) → P x → p x ≡ true) → (xs : List X) → AllByRecursion P xs → list_all p xs ≡ true
 list_passes P p h [] all = refl
 list_passes P p h (x ∷ xs) all = and_both (p x) (list_all p xs) (h x all.0) (list_passes P p h xs all.1)
 
 -- ---- jets
 
+-- the polynomials of jets are those of a report
 jets_same : (n : ℕ) (jets : List (JetTerms (Ext Frac))) → polynomial_at n (value_in algebras.Rational) jets ≡ jet_at n algebras.Rational jets
 unfolding terms_in jet_at
 jets_same n jets = fun_ext λ i. by_default (λ (f : JetTerms (Ext Frac)). poly_of n (value_in algebras.Rational) f.terms) jets i (record { n = 0; order = 0; terms = [] }) (record { n = n; order = 0; terms = [] }) refl
@@ -116,6 +122,7 @@ module _ (n k : ℕ) where
       (and_both (texts.is_monomial_in n t.0) (nat_le (sum t.0.e) k) (monomial_valid n t.0 h) (le-leb (sum t.0.e) k low))
       (and_both (is_element algebras.Rational t.1) (not (is_zero_element t.1)) ((is_element-IsElement algebras.Rational t.1).1 valid) (apart t.1 valid unit))
 
+  -- so do all terms
   terms_valid : (ts : List (Exp × Ext Frac)) → All (λ t. IsIn n t.0.e) ts → All (λ t. length t.0.e ≡ 8) ts → All (λ t. sum t.0.e ≤ k) ts → All (λ t. IsElement algebras.Rational t.1) ts
       → All (λ t. value_in algebras.Rational t.1 ≢ (scalars algebras.Rational).ops.zero) ts → list_all (is_term_of n k algebras.Rational) ts ≡ true
   terms_valid [] a b c d e = refl
@@ -126,6 +133,7 @@ module _ (n k : ℕ) where
       (terms_valid ts (All-tail (λ (t : Exp × Ext Frac). IsIn n t.0.e) t ts a) (All-tail (λ (t : Exp × Ext Frac). length t.0.e ≡ 8) t ts b) (All-tail (λ (t : Exp × Ext Frac). sum t.0.e ≤ k) t ts c)
       (All-tail (λ (t : Exp × Ext Frac). IsElement algebras.Rational t.1) t ts d) (All-tail (λ (t : Exp × Ext Frac). value_in algebras.Rational t.1 ≢ (scalars algebras.Rational).ops.zero) t ts e))
 
+  -- a jet of the calls is a jet of a report
   jet_valid : (f : JetTerms (Ext Frac)) → tests.IsJetOf meaning n k f → texts.IsJetOf n k algebras.Rational f
   jet_valid f h = record {
     variables = h.variables;
@@ -141,6 +149,7 @@ module _ (k : ℕ) (within : k ≤ 16) (g : JetTerms (Ext Frac)) (few : g.n ≤ 
   -- ---- the rows of Mather's test
 
   module _ (rows : List (MatherRow (Ext Frac))) (are : tests.AreRows meaning g k rows) where
+    -- there is at most one row
     count : length rows ≤ 1
     count =
         let a = length-map rows (λ row. exponents g.n row.monomial.e) in
@@ -157,6 +166,7 @@ module _ (k : ℕ) (within : k ≤ 16) (g : JetTerms (Ext Frac)) (few : g.n ≤ 
         list [] = refl
         list (r ∷ rs) = ap (λ (l : List (List ℕ)). exponents g.n r.monomial.e ∷ l) (list rs)
 
+    -- of degree k + 1
     degrees : Each (λ row. IsOf g.n (k + 1) (exponents g.n row.monomial.e)) rows
     degrees = each_unmap (IsOf g.n (k + 1)) (λ row. exponents g.n row.monomial.e) rows (subst (Each (IsOf g.n (k + 1))) (sym are.monomials) (monomials_are_of g.n (k + 1)))
 
@@ -167,9 +177,11 @@ module _ (k : ℕ) (within : k ≤ 16) (g : JetTerms (Ext Frac)) (few : g.n ≤ 
     list [] = refl
     list (r ∷ rs) = ap (λ (l : List (List ℕ)). exponents g.n r.monomial.e ∷ l) (list rs)
 
+    -- the monomials of the table are in the variables of g
     all_in : AllByRecursion (IsMonomialIn g.n) (map (λ row. row.monomial) q.table)
     all_in = each_image (quotients.IsTableRow meaning g.n k (length q.basis)) (IsMonomialIn g.n) (λ row. row.monomial) (λ row h. h.monomial) q.table is.rows
 
+    -- at most 17 rows
     table_size : length q.table ≤ 17
     table_size =
         let a = length-map q.table (λ row. exponents g.n row.monomial.e) in
@@ -177,6 +189,7 @@ module _ (k : ℕ) (within : k ≤ 16) (g : JetTerms (Ext Frac)) (few : g.n ≤ 
         let c = few_below g.n k few in
         omega arith
 
+    -- some elements of a list are no more than all
     filter_short : (p : List ℕ → Bool) (xs : List (List ℕ)) → length (filter p xs) ≤ length xs
     filter_short p [] = omega arith
     filter_short p (x ∷ xs) = step (p x) (filter_short p xs)
@@ -185,6 +198,7 @@ module _ (k : ℕ) (within : k ≤ 16) (g : JetTerms (Ext Frac)) (few : g.n ≤ 
         step true h = omega arith
         step false h = omega arith
 
+    -- at most 17 monomials in the basis
     basis_size : length q.basis ≤ 17
     basis_size =
         let a = length-map q.basis (λ b. exponents g.n b.e) in
@@ -209,6 +223,7 @@ module _ (k : ℕ) (within : k ≤ 16) (g : JetTerms (Ext Frac)) (few : g.n ≤ 
     unfolding scalars
     nontrivial = rational_scalar_laws.nontrivial
 
+    -- a combination of the partials has no constant term
     combination_starts : (multiplier : ℕ → Polynomial g.n Rational) (n : ℕ) → n ≤ g.n → StartsAt (exps g.n) r 1 (sum_to (poly_ops (exps g.n) r) n (λ i. times (exps g.n) r (multiplier i) (derivative (exps g.n) r i (polynomial_of meaning g))))
     combination_starts multiplier zero h = λ m l. refl
     combination_starts multiplier (suc n) h =
@@ -234,6 +249,7 @@ module _ (k : ℕ) (within : k ≤ 16) (g : JetTerms (Ext Frac)) (few : g.n ≤ 
             absurd (nontrivial (sym (nothing_taken (length q.basis) z (quotients.basis_at g.n q.basis) (quotients.values_at meaning g.n q.table one))
             ∙ is.table.adds_up one (omega arith) one (omega arith) ∙ combination_starts multiplier g.n (omega arith) one (omega arith)))
 
+    -- the monomials of the table have degree at most k
     table_degrees : All (λ a. sum a.e ≤ k) (map (λ row. row.monomial) q.table)
     table_degrees = degrees_low g.n k (map (λ row. row.monomial) q.table) (list q.table ∙ is.monomials ∙ ap (monomials_below g.n) (let e : k + 1 ≡ suc k = omega arith in e)) (unused (map (λ row. row.monomial) q.table) all_in)
       where
@@ -242,6 +258,7 @@ module _ (k : ℕ) (within : k ≤ 16) (g : JetTerms (Ext Frac)) (few : g.n ≤ 
         unused (a ∷ ms) all zero d h = all.0.unused
         unused (a ∷ ms) all (suc j) d h = unused ms all.1 j d (omega arith)
 
+    -- so have those of the basis
     basis_degrees : All (λ b. degree (exps g.n) (exp_of g.n b) ≤ k) q.basis
     basis_degrees i b h = subst (λ (c : Exp). degree (exps g.n) (exp_of g.n c) ≤ k) (same_at q.basis i b (record { e = [] }) h) (is.table.low i h)
       where
@@ -262,9 +279,11 @@ module _ (k : ℕ) (within : k ≤ 16) (g : JetTerms (Ext Frac)) (few : g.n ≤ 
     abbrev F : Carried
     F = carried_of name k g.n jet
 
+    -- multipliers of the calls are multipliers of a report
     jets_valid : (fs : List (JetTerms (Ext Frac))) → length fs ≡ g.n → AllByRecursion (tests.IsJetOf meaning g.n k) fs → texts.AreMultipliers F fs
     jets_valid fs count all = record { count = count; each = weaker (tests.IsJetOf meaning g.n k) (texts.IsJetOf g.n k algebras.Rational) (jet_valid g.n k) fs all }
 
+    -- a monomial of degree at most 17 is one of a report
     residual_monomial : (a : Exp) → IsMonomialIn g.n a → sum a.e ≤ 17 → is_residual_monomial F a ≡ true
     residual_monomial a h low = and_both (texts.is_monomial_in g.n a) (nat_le (sum a.e) 17) (monomial_valid g.n a h) (le-leb (sum a.e) 17 low)
 

@@ -1,7 +1,6 @@
 -- What the calls of Mather's test and of the quotient answer for the residual part of c*u1^m are rows, basis and table of the form, and why they are refused.
-use Rattle.std.proofs.Common.{◌≡◌, ◌≢◌, ℕ, ◌≤◌, Bool, true, false, cond, List, length, sym, subst, arith, Result, Ok, Err, IfOk}
+use Rattle.std.proofs.Common.{◌≡◌, ℕ, ◌≤◌, Bool, true, false, cond, List, sym, subst, arith, Result, Ok, Err, IfOk}
 use Rattle.std.specs.Prelude.{◌==◌}
-use Rattle.ring_theory.specs.Rational.{rational_ops}
 use Rattle.ring_theory.specs.Scalars.{HasInverses}
 use Rattle.ring_theory.proofs.RationalLaws.{rational_inverts}
 use Rattle.ring_law.specs.declared.fraction.Frac.{Frac}

@@ -17,7 +17,7 @@ use Rattle.poly_law.specs.Sums.{unit_at, multiple}
 use Rattle.poly_law.specs.ExpList.{exps}
 use Rattle.poly_law.specs.Exps.{same}
 use Rattle.poly_law.specs.Poly.{IsQuotientTable, IsMatherRow}
-use Rattle.normal_forms.specs.Monomials.{in_eight, monomials_of, numbers_below, down_from, residual_terms}
+use Rattle.normal_forms.specs.Monomials.{in_eight, monomials_of, numbers_below, residual_terms}
 use Rattle.poly_text.specs.declared.name.Name.{Name}
 use Rattle.cert_text.specs.declared.report.Carried.{Carried}
 use Rattle.cert_text.specs.declared.report.Named as named_type

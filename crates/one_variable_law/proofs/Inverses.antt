@@ -1,14 +1,11 @@
 -- Fractions that are not 0, and their inverses.
-use Rattle.std.proofs.Common.{◌≡◌, ◌≢◌, ℕ, ◌<◌, ◌≤◌, pos, unsigned_abs, sym, ap, ◌∙◌, arith}
+use Rattle.std.proofs.Common.{◌≡◌, ◌≢◌, ℕ, ◌<◌, ◌≤◌, pos, unsigned_abs, ap, ◌∙◌, arith}
 use Rattle.ring_theory.specs.Rational.{Rational, rational_ops, rational_inv}
-use Rattle.ring_theory.specs.Height.{rational_scalars}
-use Rattle.ring_theory.proofs.RationalLaws.{rational_laws, rational_inverts, rational_scalar_laws}
+use Rattle.ring_theory.proofs.RationalLaws.{rational_laws, rational_inverts}
 use Rattle.ring_law.specs.declared.fraction.Frac.{Frac}
 use Rattle.ring_law.specs.Fraction.{IsFrac, Represents, frac_value}
 use Rattle.ring_law.proofs.FractionLaws.{nonzero_value, zero_value}
-use Rattle.poly_law.specs.Sums.{multiple}
-use Rattle.poly_law.proofs.Sums as sums
-use Rattle.jet_poly.proofs.Derived.{whole_valid, whole-mul}
+use Rattle.jet_poly.proofs.Derived.{whole_valid}
 use Rattle.germ_law.specs.Germ.{whole}
 use Rattle.line_jet_law.proofs.TermByTerm.{multiple_zero}
 use Rattle.one_variable_law.specs.Reports as reports

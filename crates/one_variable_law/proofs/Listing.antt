@@ -1,9 +1,9 @@
 -- The lists of monomials that reports speak of are those of the calls; how long they are in at most one variable.
 use mathlib.Core.Path.{fun_ext}
-use Rattle.std.proofs.Common.{◌≡◌, ℕ, zero, suc, ◌+◌, ◌-◌, ◌<◌, ◌≤◌, ◌⊎◌, inl, inr, List, [], ◌∷◌, ◌++◌, map, flat_map, length, take, drop, replicate, get_or, refl, sym, ap, ap₂, subst, ◌∙◌, arith, Bool, true, eq-eqb, ◌&&◌}
+use Rattle.std.proofs.Common.{◌≡◌, ℕ, zero, suc, ◌+◌, ◌-◌, ◌<◌, ◌≤◌, ◌⊎◌, inl, inr, List, [], ◌∷◌, ◌++◌, map, flat_map, length, drop, replicate, get_or, refl, sym, ap, ap₂, ◌∙◌, arith, true, eq-eqb}
 use Rattle.std.specs.Prelude.{◌==◌}
 use Rattle.std.specs.List.{AllByRecursion, list_all}
-use Rattle.std.proofs.lemmas.List.{length-map, length-append, length-replicate, length-take}
+use Rattle.std.proofs.lemmas.List.{length-append, length-replicate, length-take}
 use Rattle.mono_exp.specs.declared.exponent.Exp.{Exp}
 use Rattle.mono_exp.specs.Exponents as monomials
 use Rattle.mono_exp.specs.Exponents.{IsIn, exponents, numbers_below}
@@ -19,6 +19,7 @@ use Rattle.one_variable_law.proofs.Bools.{and_both}
 
 -- ---- two spellings of one list
 
+-- the lists that g gives at images
 flat_map-map : {X Y Z : Type 0} (g : Y → List Z) (f : X → Y) (xs : List X) → flat_map g (map f xs) ≡ flat_map (λ x. g (f x)) xs
 flat_map-map g f [] = refl
 flat_map-map {X} {Y} {Z} g f (x ∷ xs) = ap (λ (l : List Z). g (f x) ++ l) (flat_map-map g f xs)
@@ -32,6 +33,7 @@ falling {Y} f (suc d) =
     ∙ ap (λ k. f k ++ flat_map (λ j. f (suc d - j)) (map (λ i. 1 + i) (numbers_below (suc d)))) (let e : suc d ≡ suc d - 0 = omega arith in e)
     ∙ sym (ap (flat_map (λ j. f (suc d - j))) (ap numbers_below (let e : suc (suc d) ≡ 1 + suc d = omega arith in e) ∙ numbers_below-add 1 (suc d)))
 
+-- the monomials of one degree, the first exponent falling, or the degree of the rest rising
 pub same_monomials : (n d : ℕ) → monomials_of n d ≡ monomials.monomials_of n d
 unfolding monomials.monomials_of
 same_monomials zero zero = refl
@@ -41,6 +43,7 @@ same_monomials (suc n) d =
     ∙ flat_map-same (λ j. j < suc d) (λ j. map (λ m. (d - j) ∷ m) (monomials_of n (d - (d - j)))) (λ j. map (λ m. (d - j) ∷ m) (monomials.monomials_of n j))
     (λ j h. ap (map (λ m. (d - j) ∷ m)) (ap (monomials_of n) (let e : d - (d - j) ≡ j = omega arith in e) ∙ same_monomials n j)) (numbers_below (suc d)) (numbers_are_below (suc d))
 
+-- and of degree at most k
 pub same_monomials_to : (n k : ℕ) → monomials_to n k ≡ monomials.monomials_below n (k + 1)
 unfolding monomials.monomials_below
 same_monomials_to n k =
@@ -49,6 +52,7 @@ same_monomials_to n k =
 
 -- ---- in at most one variable
 
+-- in no variable there is no monomial of positive degree
 none_of : (d : ℕ) → monomials_of 0 (d + 1) ≡ []
 none_of d = ap (monomials_of 0) (let e : d + 1 ≡ suc d = omega arith in e)
 
@@ -58,6 +62,7 @@ none_left d (suc n) h =
     ap (λ k. map (λ m. suc n ∷ m) (monomials_of 0 k) ++ flat_map (λ e. map (λ m. e ∷ m) (monomials_of 0 (d - e))) (down_from n)) (let k : d - suc n ≡ suc (d - suc n - 1) = omega arith in k)
     ∙ none_left d n (omega arith)
 
+-- in one variable there is one monomial of each degree
 pub powers_of : (d : ℕ) → monomials_of 1 d ≡ (d ∷ []) ∷ []
 powers_of zero = refl
 powers_of (suc n) =
@@ -74,6 +79,7 @@ one_at_most zero k h = let e = ap (λ (l : List (List ℕ)). length l) (none_wit
 one_at_most (suc zero) k h = let e = ap (λ (l : List (List ℕ)). length l) (sym (same_monomials 1 (k + 1)) ∙ powers_of (k + 1)) in omega arith
 one_at_most (suc (suc n)) k h = absurd (omega arith)
 
+-- and d of degree below d
 count_powers : (d : ℕ) → count_below 1 d ≡ d
 count_powers zero = count-none 1
 count_powers (suc d) = let a = count-more 0 d in let b = count-one d in let h = count_powers d in omega arith
@@ -86,6 +92,7 @@ few_below (suc (suc n)) k h = absurd (omega arith)
 
 -- ---- a monomial by its exponents
 
+-- lists of one length with the same entries are equal
 same_lists : (a b : List ℕ) → length a ≡ length b → ((i : ℕ) → i < length a → get_or a i 0 ≡ get_or b i 0) → a ≡ b
 same_lists [] [] e h = refl
 same_lists [] (y ∷ b) e h = absurd (omega arith)
@@ -125,6 +132,7 @@ listed_as n ms list all e = sym (go ms all) ∙ ap (map in_eight) e
     go [] all = refl
     go (a ∷ ms) all = ap₂ (λ x (xs : List Exp). x ∷ xs) (padded n a all.0) (go ms all.1)
 
+-- the exponents past the first n are zero
 zeros_past : (n : ℕ) (e : List ℕ) → IsIn n e → list_all (λ x. x == 0) (drop n e) ≡ true
 zeros_past zero [] h = refl
 zeros_past (suc n) [] h = refl

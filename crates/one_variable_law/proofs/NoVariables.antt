@@ -1,5 +1,5 @@
 -- In no variable there are no partials: Mather's test and the quotient form no numbers.
-use Rattle.std.proofs.Common.{◌≡◌, ℕ, suc, ◌+◌, inl, inr, List, [], ◌∷◌, ◌++◌, length, length-append, refl, sym, ap, subst, ◌∙◌, arith}
+use Rattle.std.proofs.Common.{◌≡◌, ℕ, inl, inr, List, [], ◌∷◌, length, length-append, refl, sym, ap, subst, ◌∙◌, arith}
 use Rattle.ring_theory.specs.Scalars.{Scalars}
 use Rattle.mono_exp.specs.Exponents.{monomials_of, monomials_below}
 use Rattle.lin_row.specs.Plain.{Stage, IsNext, Reached, start, step, ClearingIsHigh, ReductionIsHigh, RemainderIsHigh}
@@ -8,6 +8,7 @@ use Rattle.determinacy.specs.Tests.{IsTestHigh}
 use Rattle.jet_quotient.specs.Quotients.{IsQuotientHigh}
 
 module _ {V : Type 0} (s : Scalars V) (u : ℕ) where
+  -- no row is next among none
   not_next : (rest before after : List (ℕ → V)) (p : ℕ → V) (c : ℕ) → rest ≡ [] → IsNext s u rest before p after c → ⊥
   not_next rest before after p c none next =
       let a = ap (λ (l : List (ℕ → V)). length l) (sym none ∙ next.parts) in

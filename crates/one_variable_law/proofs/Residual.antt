@@ -1,6 +1,5 @@
 -- The residual part of c*u1^m, for which Mather's test holds at m.
-use Rattle.std.proofs.Common.{◌≡◌, ◌≢◌, ℕ, zero, suc, ◌+◌, ◌<◌, ◌≤◌, Bool, true, false, cond, List, [], ◌∷◌, map, length, get_or, sum, refl, sym, ap, ap₂, subst, ◌∙◌, arith}
-use Rattle.std.specs.Prelude.{◌==◌}
+use Rattle.std.proofs.Common.{◌≡◌, ◌≢◌, ℕ, zero, suc, ◌+◌, ◌<◌, ◌≤◌, Bool, true, false, cond, List, [], ◌∷◌, get_or, sum, refl, sym, ap, subst, ◌∙◌, arith}
 use Rattle.std.specs.List.{All}
 use Rattle.ring_theory.specs.Rational.{Rational, rational_ops, rational_inv}
 use Rattle.ring_theory.specs.Height.{rational_scalars}
@@ -25,7 +24,6 @@ use Rattle.jet_law.specs.Terms.{exp_of, poly_of}
 use Rattle.jet_poly.specs.JetTerms.{JetTerms}
 use Rattle.jet_poly.specs.Jets.{IsJet, polynomial_of}
 use Rattle.jet_poly.proofs.Derived.{whole-mul}
-use Rattle.germ_law.specs.Germ.{whole}
 use Rattle.determinacy.specs.Tests.{IsFailure, IsTestHigh}
 use Rattle.jet_quotient.specs.Quotients.{IsQuotientHigh}
 use Rattle.normal_forms.specs.Monomials.{residual_terms}
@@ -33,7 +31,6 @@ use Rattle.normal_forms.proofs.Padded.{in_eight-in}
 use Rattle.poly_text.specs.declared.name.Name.{Name}
 use Rattle.report_law.specs.Polynomials.{terms_in, residual_part}
 use Rattle.report_law.specs.Items as items
-use Rattle.one_variable_law.specs.Answers.{IsNameable}
 use Rattle.one_variable_law.specs.Plan.{IsPowerTestHigh, IsPowerQuotientHigh}
 use Rattle.one_variable_law.specs.Reports as reports
 use Rattle.one_variable_law.specs.Reports.{power, corank_of, residual_jet, form_of}
@@ -51,6 +48,7 @@ use Rattle.one_variable_law.proofs.Valid.{fraction_valid, element_valid}
 abbrev pub residual_by : Bool → ℕ → Frac → JetTerms (Ext Frac)
 residual_by b m c = record { n = cond b 0 1; order = m; terms = cond b [] ((power m, reports.rational c) ∷ []) }
 
+-- what holds of one term
 one_term_of : (P : Exp × Ext Frac → Type 0) (t : Exp × Ext Frac) → P t → All P (t ∷ [])
 one_term_of P t h zero d l = h
 one_term_of P t h (suc j) d l = absurd (omega arith)
@@ -58,6 +56,7 @@ one_term_of P t h (suc j) d l = absurd (omega arith)
 no_terms : (P : Exp × Ext Frac → Type 0) → All P []
 no_terms P j d l = absurd (omega arith)
 
+-- u1^e is a monomial in one variable
 power_unused : (e : ℕ) → IsIn 1 (power e).e
 power_unused e = in_eight-in 1 (e ∷ []) (omega arith)
 
@@ -65,6 +64,7 @@ module _ (c : Frac) (valid : IsFrac c) (unit : frac_value c ≢ rational_ops.zer
   abbrev v : Rational
   v = frac_value c
 
+  -- c as an element of the algebra Q
   element : IsElement algebras.Rational (reports.rational c)
   element = (is_element-IsElement algebras.Rational (reports.rational c)).0 (element_valid c (fraction_valid c valid))
 
