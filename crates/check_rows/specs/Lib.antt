@@ -1,0 +1,4 @@
+pub mod Lists
+pub mod Products
+pub mod Rows
+pub mod Functionals
