@@ -2,7 +2,6 @@
 use Rattle.std.proofs.Common.{◌≡◌, ℕ, zero, suc, ◌+◌, ◌<◌, ◌≤◌, ◌⊎◌, inl, inr, Bool, true, false, List, [], ◌∷◌, ◌++◌, map, length, get_or, take, sum, IsTrue, ◌↔◌, refl, sym, ap, ap₂, subst, ◌∙◌, arith}
 use Rattle.std.specs.List.{All, AllByRecursion}
 use Rattle.std.proofs.lemmas.List.{get_or-map, length-map, map-append, take_more}
-use Rattle.std.proofs.lemmas.List.Elements.{All-head, All-tail}
 use Rattle.ring_theory.specs.Scalars.{Meaning, ScalarLaws}
 use Rattle.poly_law.specs.Exps.{degree}
 use Rattle.poly_law.specs.ExpList.{ExpList, exps}
@@ -20,10 +19,9 @@ use Rattle.jet_poly.specs.Jets.{polynomial_of}
 use Rattle.jacobian_row.specs.Rows.{polynomial_at, IsPartialHigh}
 use Rattle.jacobian_row.proofs.RowFacts.{degrees_are}
 use Rattle.determinacy.specs.declared.row.MatherRow.{MatherRow}
-use Rattle.determinacy.specs.Tests.{IsRow, AreRows}
 use Rattle.check_rows.specs.Lists.{ArePartialLists, list_at}
 use Rattle.check_rows.specs.Products.{sum_of_products, AreProductsHigh, IsProductHigh, IsCombinationHigh}
-use Rattle.check_rows.specs.Rows.{IsRowShape, IsRowBy, IsPrintedRow, IsSomeRowHigh, AreRowsHigh, row_at}
+use Rattle.check_rows.specs.Rows.{AreRowsAt, IsRowBy, IsPrintedRow, IsSomeRowHigh, AreRowsHigh, row_at}
 use Rattle.check_rows.proofs.JetLemmas
 
 -- ---- two lists with equal keys
@@ -89,28 +87,28 @@ module _ {E V : Type 0} (m : Meaning E V) (laws : ScalarLaws m.scalars) where
   -- ---- all rows
 
   module _ (g : JetTerms E) (k : ℕ) (partials : List (List (Exp × E))) where
-    all_rows : (rows : List (MatherRow E)) → All (IsRowShape m g.n k) rows → ArePartialLists m g.n (polynomial_of m g) partials
-        → AllByRecursion (IsPrintedRow m g.n (k + 1) (list_at g.n m.value partials)) rows → AllByRecursion (IsRow m g k) rows
-    all_rows [] shape are all = tt
-    all_rows (row ∷ rows) shape are all =
-        let s = All-head (IsRowShape m g.n k) row rows shape in (
-          record { monomial = s.monomial; count = s.count; jets = s.jets; is_row = row_by g.n k (polynomial_of m g) partials row are all.0 },
-          all_rows rows (All-tail (IsRowShape m g.n k) row rows shape) are all.1,
-        )
+    -- the row is one of the test at k
+    abbrev IsRowHere : MatherRow E → Type 0
+    IsRowHere row = IsMatherRow (exps g.n) m.scalars.ops k (polynomial_of m g) (exp_of g.n row.monomial) (polynomial_at g.n m.value row.multipliers)
 
-    rows_all : (rows : List (MatherRow E)) → ArePartialLists m g.n (polynomial_of m g) partials → AllByRecursion (IsRow m g k) rows
+    all_rows : (rows : List (MatherRow E)) → ArePartialLists m g.n (polynomial_of m g) partials
+        → AllByRecursion (IsPrintedRow m g.n (k + 1) (list_at g.n m.value partials)) rows → AllByRecursion IsRowHere rows
+    all_rows [] are all = tt
+    all_rows (row ∷ rows) are all = (row_by g.n k (polynomial_of m g) partials row are all.0, all_rows rows are all.1)
+
+    rows_all : (rows : List (MatherRow E)) → ArePartialLists m g.n (polynomial_of m g) partials → AllByRecursion IsRowHere rows
         → AllByRecursion (IsPrintedRow m g.n (k + 1) (list_at g.n m.value partials)) rows
     rows_all [] are all = tt
-    rows_all (row ∷ rows) are all = (by_row g.n k (polynomial_of m g) partials row are all.0.is_row, rows_all rows are all.1)
+    rows_all (row ∷ rows) are all = (by_row g.n k (polynomial_of m g) partials row are all.0, rows_all rows are all.1)
 
     -- rows for all monomials are decided by the rows
     abbrev Decided : List (MatherRow E) → Bool → ℕ → Type 0
     Decided rows b n = (ms : List Exp) → map (λ a. exponents n a.e) ms ≡ monomials_of n (k + 1) → map (λ row. exponents n row.monomial.e) rows ≡ map (λ a. exponents n a.e) ms
-        → (IsTrue b ↔ AllByRecursion (IsPrintedRow m n (k + 1) (list_at n m.value partials)) rows) → IsTrue b ↔ AreRows m g k rows
+        → (IsTrue b ↔ AllByRecursion (IsPrintedRow m n (k + 1) (list_at n m.value partials)) rows) → IsTrue b ↔ AreRowsAt m g k rows
 
-    pub rows_decided : (rows : List (MatherRow E)) (b : Bool) (n : ℕ) → n ≡ g.n → All (IsRowShape m g.n k) rows → ArePartialLists m g.n (polynomial_of m g) partials → Decided rows b n
-    rows_decided rows b n e shape are = subst (Decided rows b) (sym e) (λ ms all monomials decides. (
-      (λ yes. record { monomials = monomials ∙ all; each = all_rows rows shape are (decides.0 yes) }),
+    pub rows_decided : (rows : List (MatherRow E)) (b : Bool) (n : ℕ) → n ≡ g.n → ArePartialLists m g.n (polynomial_of m g) partials → Decided rows b n
+    rows_decided rows b n e are = subst (Decided rows b) (sym e) (λ ms all monomials decides. (
+      (λ yes. record { monomials = monomials ∙ all; each = all_rows rows are (decides.0 yes) }),
       (λ is. decides.1 (rows_all rows are is.each)),
     ))
 
@@ -134,7 +132,7 @@ module _ {E V : Type 0} (m : Meaning E V) (laws : ScalarLaws m.scalars) where
     }))
 
   -- where the rows do not stand for all monomials they are no rows
-  pub no_rows : (g : JetTerms E) (k : ℕ) (rows : List (MatherRow E)) (n : ℕ) (ms : List Exp) → n ≡ g.n → map (λ a. exponents n a.e) ms ≡ monomials_of n (k + 1) → AreRows m g k rows
+  pub no_rows : (g : JetTerms E) (k : ℕ) (rows : List (MatherRow E)) (n : ℕ) (ms : List Exp) → n ≡ g.n → map (λ a. exponents n a.e) ms ≡ monomials_of n (k + 1) → AreRowsAt m g k rows
       → map (λ row. exponents n row.monomial.e) rows ≡ map (λ a. exponents n a.e) ms
   no_rows g k rows n ms e all is = subst (λ i. map (λ row. exponents i row.monomial.e) rows ≡ monomials_of i (k + 1)) (sym e) is.monomials ∙ sym all
 

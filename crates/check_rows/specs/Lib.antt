@@ -2,3 +2,4 @@ pub mod Lists
 pub mod Products
 pub mod Rows
 pub mod Functionals
+pub mod ItemHeights

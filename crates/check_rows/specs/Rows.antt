@@ -1,22 +1,30 @@
 -- A row of Mather's test by any polynomials in place of the partial derivatives, and when the rows of a jet are high.
-use Rattle.std.specs.Prelude.{◌≡◌, ℕ, ◌+◌, ◌<◌, ◌≤◌, ◌⊎◌, List, [], length, get_or, sum}
+use Rattle.std.specs.Prelude.{◌≡◌, ℕ, ◌+◌, ◌<◌, ◌≤◌, ◌⊎◌, List, [], length, get_or, map, sum, All}
 use Rattle.std.specs.List.{AllByRecursion}
 use Rattle.ring_theory.specs.Ring.{RingOps}
 use Rattle.ring_theory.specs.Scalars.{Scalars, Meaning}
-use Rattle.poly_law.specs.ExpList.{ExpList}
+use Rattle.poly_law.specs.ExpList.{ExpList, exps}
+use Rattle.poly_law.specs.Poly.{IsMatherRow}
 use Rattle.poly_law.specs.Polynomials.{Polynomial, StartsAtIn, SameToIn, term_in}
+use Rattle.mono_exp.specs.Exponents.{IsIn, exponents, monomials_of}
 use Rattle.jet_law.specs.Terms.{exp_of}
-use Rattle.jacobian_row.specs.Rows.{IsPartialHigh, polynomial_at}
-use Rattle.determinacy.specs.Tests.{IsMonomialIn, IsJetOf}
+use Rattle.jet_poly.specs.JetTerms.{JetTerms}
+use Rattle.jet_poly.specs.Jets.{polynomial_of}
+use Rattle.jacobian_row.specs.Rows.{IsJetIn, IsPartialHigh, polynomial_at}
 use Rattle.determinacy.specs.declared.row.MatherRow.{MatherRow}
 use Rattle.check_rows.specs.Products.{sum_of_products, AreProductsHigh, IsCombinationHigh}
 
--- a monomial of degree at most 17 in n variables, with one multiplier for each variable, a jet of order k in them
-pub record IsRowShape {E V : Type 0} (m : Meaning E V) (n k : ℕ) (row : MatherRow E) : Type 0 where
-  pub monomial : IsMonomialIn n row.monomial
+-- a monomial of degree at most 17 in n variables, with one multiplier for each variable, a jet in them
+pub record IsRowShape {E V : Type 0} (m : Meaning E V) (n : ℕ) (row : MatherRow E) : Type 0 where
+  pub unused : IsIn n row.monomial.e
   pub small : sum row.monomial.e ≤ 17
   pub count : length row.multipliers ≡ n
-  pub jets : AllByRecursion (IsJetOf m n k) row.multipliers
+  pub jets : All (IsJetIn m n) row.multipliers
+
+-- one row of Mather's test at k for g for each monomial of degree k + 1 in its variables, in the monomial order
+pub record AreRowsAt {E V : Type 0} (m : Meaning E V) (g : JetTerms E) (k : ℕ) (rows : List (MatherRow E)) : Type 0 where
+  pub monomials : map (λ row. exponents g.n row.monomial.e) rows ≡ monomials_of g.n (k + 1)
+  pub each : AllByRecursion (λ row. IsMatherRow (exps g.n) m.scalars.ops k (polynomial_of m g) (exp_of g.n row.monomial) (polynomial_at g.n m.value row.multipliers)) rows
 
 -- the multipliers f(i) have no term of degree below 2, and the sum of the f(i)*h(i) is the monomial a up to degree d
 pub record IsRowBy {V : Type 0} (n : ℕ) (r : RingOps V) (d : ℕ) (h : ℕ → Polynomial n V) (a : ExpList n) (f : ℕ → Polynomial n V) : Type 0 where

@@ -7,10 +7,9 @@ ghost use Rattle.poly_law.specs.Polynomials.{StartsAtIn};
 ghost use Rattle.mono_exp.specs.Exponents.{IsIn, exponents};
 ghost use Rattle.jet_poly.specs.Jets.{IsJet, polynomial_of};
 ghost use Rattle.jacobian_row.specs.Rows.{IsJetIn, polynomial_at};
-ghost use Rattle.determinacy.specs.Tests.{AreRows, IsJetOf};
 ghost use Rattle.check_rows.specs.Lists.{AreTermsIn, list_at};
 ghost use Rattle.check_rows.specs.Products.{AreProductsHigh};
-ghost use Rattle.check_rows.specs.Rows.{IsRowShape, IsPrintedRow, IsSomeRowHigh, AreRowsHigh, row_at};
+ghost use Rattle.check_rows.specs.Rows.{IsRowShape, AreRowsAt, IsPrintedRow, IsSomeRowHigh, AreRowsHigh, row_at};
 
 use crate::combine::combination;
 use crate::derive::partial_lists;
@@ -52,7 +51,7 @@ fn is_row<R: Ring>(
     requires order_at_most_16 { k ≤ 16 }
     requires count { length partials.now ≡ n }
     requires terms { All (AreTermsIn (R.meaning ring.now) n) partials.now }
-    requires row { IsRowShape (R.meaning ring.now) n k row.now }
+    requires row { IsRowShape (R.meaning ring.now) n row.now }
     requires degree { sum row.now.monomial.e ≤ k + 1 }
     ensures row { IfOk result (λ b. let m = R.meaning ring.now in IsTrue b ↔ IsPrintedRow m n (k + 1) (list_at n m.value partials.now) row.now) }
     ensures range { OnFault result (let m = R.meaning ring.now in AreProductsHigh n m.scalars (k + 1) (polynomial_at n m.value row.now.multipliers) (list_at n m.value partials.now)) }
@@ -80,7 +79,7 @@ fn each_is_row<R: Ring>(
     requires order_at_most_16 { k ≤ 16 }
     requires count { length partials.now ≡ n }
     requires terms { All (AreTermsIn (R.meaning ring.now) n) partials.now }
-    requires rows { All (IsRowShape (R.meaning ring.now) n k) rows.now }
+    requires rows { All (IsRowShape (R.meaning ring.now) n) rows.now }
     requires degrees { All (λ row. sum row.monomial.e ≤ k + 1) rows.now }
     ensures rows { IfOk result (λ b. let m = R.meaning ring.now in IsTrue b ↔ AllByRecursion (IsPrintedRow m n (k + 1) (list_at n m.value partials.now)) rows.now) }
     ensures range { OnFault result (let m = R.meaning ring.now in IsSomeRowHigh m n (k + 1) (list_at n m.value partials.now) rows.now) }
@@ -129,8 +128,8 @@ pub fn are_rows<R: Ring>(
     requires jet { IsJet (R.meaning ring.now) g.now }
     requires at_most_8_variables { g.now.n ≤ 8 }
     requires order_at_most_16 { k ≤ 16 }
-    requires rows { All (IsRowShape (R.meaning ring.now) g.now.n k) rows.now }
-    ensures rows { IfOk result (λ b. IsTrue b ↔ AreRows (R.meaning ring.now) g.now k rows.now) }
+    requires rows { All (IsRowShape (R.meaning ring.now) g.now.n) rows.now }
+    ensures rows { IfOk result (λ b. IsTrue b ↔ AreRowsAt (R.meaning ring.now) g.now k rows.now) }
     ensures range { OnFault result (let m = R.meaning ring.now in AreRowsHigh g.now.n m.scalars k (polynomial_of m g.now) (length rows.now)
         (λ i. polynomial_at g.now.n m.value (row_at rows.now i).multipliers)) }
 {

@@ -35,7 +35,7 @@ each_is_row-requires-clause-degrees g c =
     let n = c.n-n.result in
     row_degrees m laws n c.args.k c.args.rows.now
     (c.stand_for.ensures.0 c.if-not-stand_for.false ∙ ap (map (λ a. exponents c.n-n.result a.e)) c.deref.ensures.value ∙ c.in_ok-monomials.ensures.list)
-    (λ i d h. subst (λ j. IsIn j (get_or c.args.rows.now i d).monomial.e) (sym c.n-n.ensures) (c.requires.rows i d h).monomial.unused)
+    (λ i d h. subst (λ j. IsIn j (get_or c.args.rows.now i d).monomial.e) (sym c.n-n.ensures) (c.requires.rows i d h).unused)
 
 pub returns-clause-rows : goal.returns-clause-rows
 returns-clause-rows g c =
@@ -44,7 +44,7 @@ returns-clause-rows g c =
     let n = c.n-n.result in
     let are : ArePartialLists m c.args.g.now.n (polynomial_of m c.args.g.now) c.deref-2.result.now = subst (ArePartialLists m c.args.g.now.n (polynomial_of m c.args.g.now)) (sym c.deref-2.ensures.value) c.in_ok-partials.ensures.partials in
     if_ok c.each_is_row.result
-    (λ b decides. rows_decided m laws c.args.g.now c.args.k c.deref-2.result.now c.args.rows.now b n c.n-n.ensures c.requires.rows are c.deref.result.now
+    (λ b decides. rows_decided m laws c.args.g.now c.args.k c.deref-2.result.now c.args.rows.now b n c.n-n.ensures are c.deref.result.now
     (ap (map (λ a. exponents c.n-n.result a.e)) c.deref.ensures.value ∙ c.in_ok-monomials.ensures.list) (c.stand_for.ensures.0 c.if-not-stand_for.false) decides)
     c.each_is_row.ensures.rows
 

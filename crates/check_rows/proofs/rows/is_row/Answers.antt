@@ -23,7 +23,7 @@ returns-clause-row g c =
     row_decided m laws n c.args.k (list_at n m.value c.args.partials.now) c.args.row.now c.in_ok-sum.sum c.in_ok-wanted.wanted c.is_same_jet.result c.in_ok-sum.ensures.n
     (subst (λ z. SameIn c.args.n m.scalars.ops (poly_of c.args.n m.value c.in_ok-sum.sum.terms) (cut_in c.args.n m.scalars.ops (c.args.k + 1) (sum_of_products c.args.n m.scalars.ops (polynomial_at c.args.n m.value z) (list_at c.args.n m.value c.args.partials.now))))
     c.as_slice-multipliers.ensures c.in_ok-sum.ensures.sum)
-    c.in_ok-wanted.ensures.monomial c.requires.row.monomial.unused c.requires.degree
+    c.in_ok-wanted.ensures.monomial c.requires.row.unused c.requires.degree
     (λ i h. subst (λ z. StartsAtIn c.args.n m.scalars.ops 2 (polynomial_at c.args.n m.value z i)) c.as_slice-multipliers.ensures
     (c.all_start_at_two.ensures.0 c.if-not-all_start_at_two.false i (subst (λ z. i < length z) (sym c.as_slice-multipliers.ensures) (subst (λ l. i < l) (sym c.requires.row.count) h))))
     c.is_same_jet.ensures
