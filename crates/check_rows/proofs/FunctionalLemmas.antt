@@ -1,23 +1,22 @@
 -- The values of a functional at multiples of partials.
-use mathlib.Core.Path.{fun_ext}
 use Rattle.std.proofs.Common.{◌≡◌, ℕ, zero, suc, ◌+◌, ◌-◌, ◌<◌, ◌≤◌, ◌^◌, ◌⊎◌, inl, inr, Bool, true, false, cond, eqb, leb, le-leb, List, [], ◌∷◌, ◌++◌, map, length, get_or, take, sum, IsTrue, ◌↔◌, refl, sym, ap, ap₂, subst, ◌∙◌, append-nil, arith}
 use Rattle.std.specs.List.{All, AllByRecursion}
-use Rattle.std.proofs.lemmas.List.{get_or-map, length-map, map-append, take_more}
+use Rattle.std.proofs.lemmas.List.{length-map, map-append}
 use Rattle.std.proofs.lemmas.List.Elements.{All-head, All-tail}
 use Rattle.ring_theory.specs.Ring.{RingOps, IsCommRing}
-use Rattle.ring_theory.specs.Scalars.{Scalars, Meaning, ScalarLaws, sum_of}
+use Rattle.ring_theory.specs.Scalars.{Meaning, ScalarLaws, sum_of}
 use Rattle.poly_law.specs.Sums.{total}
 use Rattle.poly_law.specs.Exps.{same, plus, none, degree}
 use Rattle.poly_law.specs.ExpList.{ExpList, exps}
-use Rattle.poly_law.specs.Poly.{coefficient, cut, times, times_term, term, derivative, constant, Same, SameTo, StartsAt, value_on, MatherFails}
-use Rattle.poly_law.specs.Polynomials.{Polynomial, term_in, times_in, derivative_in, cut_in}
+use Rattle.poly_law.specs.Poly.{coefficient, times_term, Same, SameTo, value_on, MatherFails}
+use Rattle.poly_law.specs.Polynomials.{Polynomial, term_in, times_in, derivative_in}
 use Rattle.poly_law.proofs.ExpLists.{exps_are}
 use Rattle.poly_law.proofs.ExpLaws
 use Rattle.poly_law.proofs.Sums
 use Rattle.poly_law.proofs.Order
 use Rattle.poly_law.proofs.PolyRing
 use Rattle.mono_exp.specs.declared.exponent.Exp.{Exp}
-use Rattle.mono_exp.specs.Exponents.{IsIn, IsProduct, Divides, exponents}
+use Rattle.mono_exp.specs.Exponents.{IsIn, IsProduct, Divides}
 use Rattle.mono_exp.proofs.Lists.{Each, each-map}
 use Rattle.jet_law.specs.Canonical.{monomial_in}
 use Rattle.jet_law.specs.Heights.{IsHigh}
@@ -28,13 +27,13 @@ use Rattle.jet_poly.specs.JetTerms.{JetTerms}
 use Rattle.jet_poly.specs.Jets.{polynomial_of}
 use Rattle.jacobian_row.specs.Multiples.{AreMultiples, pair_of, pairs_between, multiple_to}
 use Rattle.jacobian_row.specs.Multipliers.{multiple_at}
-use Rattle.jacobian_row.specs.Rows.{polynomial_at, ArePartials, IsPartialHigh}
+use Rattle.jacobian_row.specs.Rows.{polynomial_at, ArePartials}
 use Rattle.jacobian_row.specs.declared.multiple.Multiple.{Multiple}
 use Rattle.jacobian_row.proofs.Membership.{at_pair, each_unmap}
 use Rattle.jacobian_row.proofs.MultipleOrder.{IsPairOf, pairs_are, pair_is}
 use Rattle.jacobian_row.proofs.RowFacts.{monomial-exponents}
 use Rattle.jacobian_row.proofs.NumberLemmas.{exp_of-entries, sum-entries}
-use Rattle.check_rows.specs.Functionals.{with_coefficients, value_heights, IsMultipleHigh, AreValuesHigh, IsZeroOn, IsZeroHigh}
+use Rattle.check_rows.specs.Functionals.{with_coefficients, value_heights, IsMultipleHigh, IsZeroOn, IsZeroHigh}
 
 -- ---- multiples by a monomial
 

@@ -1,12 +1,11 @@
 -- Jets as sorted lists of terms: equal polynomials, and the lowest degree.
-use Rattle.std.proofs.Common.{◌≡◌, ◌≢◌, ℕ, zero, suc, ◌+◌, ◌<◌, ◌≤◌, ◌⊎◌, inl, inr, Bool, true, false, cond, ltb, leb, le-leb, List, [], ◌∷◌, ◌++◌, map, length, get_or, take, sum, IsTrue, ◌↔◌, refl, sym, ap, ap₂, subst, ◌∙◌, arith}
+use Rattle.std.proofs.Common.{◌≡◌, ◌≢◌, ℕ, zero, suc, ◌+◌, ◌<◌, ◌≤◌, ◌⊎◌, inl, inr, Bool, true, false, cond, le-leb, List, [], ◌∷◌, ◌++◌, length, get_or, take, sum, IsTrue, ◌↔◌, refl, sym, ap, ap₂, subst, ◌∙◌, arith}
 use Rattle.std.specs.List.{All, AllByRecursion}
 use Rattle.std.proofs.lemmas.Bool.{lt-ltb, ltb-true}
 use Rattle.std.proofs.lemmas.List.{get_or-map, length-map}
 use Rattle.std.proofs.lemmas.List.Elements.{All-head, All-tail}
-use Rattle.ring_theory.specs.Ring.{IsCommRing}
 use Rattle.ring_theory.specs.Scalars.{Meaning, ScalarLaws}
-use Rattle.poly_law.specs.Exps.{same, degree}
+use Rattle.poly_law.specs.Exps.{degree}
 use Rattle.poly_law.specs.ExpList.{ExpList, exps}
 use Rattle.poly_law.specs.Poly.{coefficient, cut, Same, SameTo, StartsAt, term}
 use Rattle.poly_law.specs.Polynomials.{Polynomial}

@@ -1,6 +1,6 @@
 -- Lists of terms and of products, made one after the other.
-use Rattle.std.proofs.Common.{◌≡◌, ℕ, suc, ◌+◌, ◌<◌, ◌≤◌, ◌^◌, Bool, true, false, cond, leb, List, [], ◌∷◌, ◌++◌, map, length, get_or, take, refl, sym, ap, ap₂, subst, ◌∙◌, append_assoc, append-nil, add-one, arith}
-use Rattle.std.specs.List.{AllByRecursion, filter, flat_map}
+use Rattle.std.proofs.Common.{◌≡◌, ℕ, ◌+◌, ◌<◌, Bool, true, false, cond, leb, List, [], ◌∷◌, ◌++◌, map, length, get_or, take, refl, sym, ap, ap₂, subst, ◌∙◌, append_assoc, append-nil, add-one}
+use Rattle.std.specs.List.{filter, flat_map}
 use Rattle.std.proofs.lemmas.List.{map-append}
 use Rattle.ring_theory.specs.Scalars.{Meaning}
 use Rattle.poly_law.specs.Sums.{sum_to}

@@ -1,12 +1,12 @@
 -- The lists of monomials that reports speak of are those of all monomials by their exponents.
 use mathlib.Core.Path.{fun_ext}
-use Rattle.std.proofs.Common.{◌≡◌, ℕ, zero, suc, ◌+◌, ◌-◌, ◌<◌, ◌≤◌, ◌⊎◌, inl, inr, List, [], ◌∷◌, ◌++◌, map, flat_map, length, take, replicate, get_or, refl, sym, ap, ap₂, subst, ◌∙◌, arith}
-use Rattle.std.specs.List.{All, AllByRecursion}
-use Rattle.std.proofs.lemmas.List.{length-map, length-append, length-replicate, length-take}
+use Rattle.std.proofs.Common.{◌≡◌, ℕ, zero, suc, ◌+◌, ◌-◌, ◌<◌, ◌≤◌, ◌⊎◌, inl, inr, List, [], ◌∷◌, ◌++◌, map, flat_map, length, replicate, get_or, refl, sym, ap, ap₂, ◌∙◌, arith}
+use Rattle.std.specs.List.{AllByRecursion}
+use Rattle.std.proofs.lemmas.List.{length-append, length-replicate, length-take}
 use Rattle.mono_exp.specs.declared.exponent.Exp.{Exp}
 use Rattle.mono_exp.specs.Exponents as monomials
 use Rattle.mono_exp.specs.Exponents.{IsIn, exponents, numbers_below}
-use Rattle.mono_exp.proofs.Lists.{Each, each-weaker, map-map, map-same, numbers_below-add, numbers_are_below, flat_map-same}
+use Rattle.mono_exp.proofs.Lists.{Each, each-weaker, numbers_below-add, numbers_are_below, flat_map-same}
 use Rattle.mono_exp.proofs.Counting.{IsOf, monomials_are_of}
 use Rattle.mono_exp.proofs.NumberLemmas.{length-exponents, get_or-exponents}
 use Rattle.normal_forms.specs.Monomials.{in_eight, monomials_of, monomials_to, down_from}

@@ -4,36 +4,33 @@ use Rattle.std.proofs.Common.{◌≡◌, ℕ, zero, suc, ◌+◌, ◌<◌, ◌�
 use Rattle.std.specs.Prelude.{not, nat_le, drop, ◌==◌}
 use Rattle.std.specs.List.{All, AllByRecursion, list_all}
 use Rattle.std.proofs.lemmas.Bool.{leb-true, eqb-true}
-use Rattle.std.proofs.lemmas.List.Elements.{All-from_recursion, recursion_from_All}
+use Rattle.std.proofs.lemmas.List.Elements.{All-from_recursion}
 use Rattle.line_syntax.proofs.Bools.{and_left, and_right}
 use Rattle.ring_law.specs.declared.fraction.Frac.{Frac}
 use Rattle.ext_algebra.specs.declared.algebra.Algebra.{Algebra}
 use Rattle.ext_algebra.specs.declared.algebra.Ext.{Ext}
-use Rattle.ext_algebra.specs.Algebra.{Value, ops, scalars, value_in, IsElement, algebra_meaning, is_element}
+use Rattle.ext_algebra.specs.Algebra.{ops, scalars, value_in, IsElement, algebra_meaning, is_element}
 use Rattle.poly_law.specs.ExpList.{exps}
 use Rattle.poly_law.specs.Poly.{IsMatherRow, MatherFails}
-use Rattle.poly_law.specs.Polynomials.{Polynomial}
 use Rattle.mono_exp.specs.declared.exponent.Exp.{Exp}
 use Rattle.mono_exp.specs.Exponents.{IsIn, exponents}
 use Rattle.mono_exp.proofs.Lists.{map-map}
 use Rattle.jet_law.specs.Canonical.{monomial_in}
 use Rattle.jet_law.specs.Terms.{exp_of, poly_of}
 use Rattle.jet_poly.specs.JetTerms.{JetTerms}
-use Rattle.jet_poly.specs.Jets.{polynomial_of}
 use Rattle.jet_poly.proofs.GatheredLemmas.{weaker}
 use Rattle.jacobian_row.specs.Rows.{IsJetIn, polynomial_at}
 use Rattle.determinacy.specs.declared.row.MatherRow.{MatherRow}
-use Rattle.normal_forms.specs.Monomials.{monomials_of, monomials_in}
+use Rattle.normal_forms.specs.Monomials.{monomials_in}
 use Rattle.cert_text.specs.declared.report.Carried.{Carried}
-use Rattle.cert_text.specs.declared.report.Limit as limit_type
 use Rattle.cert_text.specs.WellFormed.{IsWellFormedCarried, IsWellFormedRow, AreRows, is_monomial_in, is_residual_monomial, is_zero_element, IsWellFormedLimit}
 use Rattle.cert_text.specs.WellFormed as text
-use Rattle.report_law.specs.Polynomials.{PolynomialOver, terms_in, jet_at}
+use Rattle.report_law.specs.Polynomials.{terms_in, jet_at}
 use Rattle.report_law.specs.Items.{residual_of, IsRowOf, AreMatherRows}
 use Rattle.report_jet.proofs.ReportJets.{jet_valid, monomial_inside, element_valid}
 use Rattle.check_rows.specs.Rows.{IsRowShape, AreRowsAt, AreRowsHigh, row_at}
 use Rattle.check_rows.specs.Functionals.{AreValuesHigh}
-use Rattle.check_rows.specs.ItemHeights.{IsMatherHigh, IsFunctionalHigh}
+use Rattle.check_rows.specs.ItemHeights.{IsMatherHigh}
 use Rattle.check_rows.proofs.Listing.{IsEight, of_degree, degree_of}
 
 -- ---- what well-formed rows are

@@ -1,12 +1,11 @@
 -- The rows of Mather's test from the answers about their parts.
-use Rattle.std.proofs.Common.{◌≡◌, ℕ, zero, suc, ◌+◌, ◌<◌, ◌≤◌, ◌⊎◌, inl, inr, Bool, true, false, List, [], ◌∷◌, ◌++◌, map, length, get_or, take, sum, IsTrue, ◌↔◌, refl, sym, ap, ap₂, subst, ◌∙◌, arith}
+use Rattle.std.proofs.Common.{◌≡◌, ℕ, ◌+◌, ◌<◌, ◌≤◌, inl, inr, Bool, List, [], ◌∷◌, ◌++◌, map, length, get_or, take, sum, IsTrue, ◌↔◌, sym, ap, ap₂, subst, ◌∙◌, arith}
 use Rattle.std.specs.List.{All, AllByRecursion}
 use Rattle.std.proofs.lemmas.List.{get_or-map, length-map, map-append, take_more}
 use Rattle.ring_theory.specs.Scalars.{Meaning, ScalarLaws}
-use Rattle.poly_law.specs.Exps.{degree}
-use Rattle.poly_law.specs.ExpList.{ExpList, exps}
+use Rattle.poly_law.specs.ExpList.{exps}
 use Rattle.poly_law.specs.Poly.{cut, combination, times, poly_ops, derivative, IsMatherRow}
-use Rattle.poly_law.specs.Polynomials.{Polynomial, SameIn, StartsAtIn, cut_in, term_in, derivative_in}
+use Rattle.poly_law.specs.Polynomials.{Polynomial, SameIn, StartsAtIn, cut_in, term_in}
 use Rattle.poly_law.proofs.Sums.{sum_to-cong}
 use Rattle.mono_exp.specs.declared.exponent.Exp.{Exp}
 use Rattle.mono_exp.specs.Exponents.{IsIn, exponents, monomials_of}
@@ -16,12 +15,12 @@ use Rattle.jet_law.specs.Terms.{exp_of, poly_of}
 use Rattle.jet_law.proofs.TermLemmas.{degree-exp_of}
 use Rattle.jet_poly.specs.JetTerms.{JetTerms}
 use Rattle.jet_poly.specs.Jets.{polynomial_of}
-use Rattle.jacobian_row.specs.Rows.{polynomial_at, IsPartialHigh}
+use Rattle.jacobian_row.specs.Rows.{polynomial_at}
 use Rattle.jacobian_row.proofs.RowFacts.{degrees_are}
 use Rattle.determinacy.specs.declared.row.MatherRow.{MatherRow}
 use Rattle.check_rows.specs.Lists.{ArePartialLists, list_at}
-use Rattle.check_rows.specs.Products.{sum_of_products, AreProductsHigh, IsProductHigh, IsCombinationHigh}
-use Rattle.check_rows.specs.Rows.{AreRowsAt, IsRowBy, IsPrintedRow, IsSomeRowHigh, AreRowsHigh, row_at}
+use Rattle.check_rows.specs.Products.{sum_of_products, AreProductsHigh, IsCombinationHigh}
+use Rattle.check_rows.specs.Rows.{AreRowsAt, IsPrintedRow, IsSomeRowHigh, AreRowsHigh, row_at}
 use Rattle.check_rows.proofs.JetLemmas
 
 -- ---- two lists with equal keys

@@ -1,4 +1,4 @@
-use Rattle.std.proofs.Common.{◌≡◌, ◌++◌, [], ◌∷◌, append-nil, sym, subst, take_all, arith}
+use Rattle.std.proofs.Common.{◌≡◌, ◌++◌, append-nil, sym, subst, take_all, arith}
 use Rattle.std.proofs.lemmas.List.Elements.{All-from_recursion}
 use Rattle.ring_law.proofs.Exits.{fault_handed_on}
 use Rattle.poly_law.specs.ExpList.{exps}

@@ -1,9 +1,7 @@
-use Rattle.std.proofs.Common.{◌≡◌, ◌+◌, ◌<◌, ◌≤◌, ◌++◌, [], ◌∷◌, cond, sym, ap, ap₂, subst, ◌∙◌, sum, append-nil, arith}
+use Rattle.std.proofs.Common.{◌+◌, ◌<◌, ◌≤◌, ◌++◌, [], ◌∷◌, cond, sym, ap, ap₂, subst, ◌∙◌, sum, append-nil, arith}
 use Rattle.ring_law.proofs.Exits.{faulted}
 use Rattle.poly_law.specs.Exps.{plus}
 use Rattle.poly_law.specs.ExpList.{ExpList, exps}
-use Rattle.poly_law.specs.Poly.{cut}
-use Rattle.mono_exp.specs.Exponents.{IsIn}
 use Rattle.jet_law.specs.Terms.{exp_of, poly_of}
 use Rattle.jet_law.proofs.TermLemmas.{exp_of-product, in-product, poly_of-push}
 use Rattle.jet_poly.proofs.Steps.{low-product, high-product}

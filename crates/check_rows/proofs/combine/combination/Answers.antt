@@ -1,12 +1,10 @@
-use Rattle.std.proofs.Common.{◌≡◌, ◌∙◌, inl, inr, leb, ap, sym, subst}
-use Rattle.std.proofs.lemmas.List.Elements.{All-from_recursion}
-use Rattle.ring_law.proofs.Exits.{fault_handed_on, faulted_by}
+use Rattle.std.proofs.Common.{◌∙◌, inr, leb, ap, subst}
+use Rattle.ring_law.proofs.Exits.{faulted_by}
 use Rattle.poly_law.specs.Exps.{degree}
 use Rattle.poly_law.specs.ExpList.{exps}
 use Rattle.poly_law.specs.Poly.{coefficient, cut}
 use Rattle.jet_law.specs.Heights.{IsHigh, sums_heights}
 use Rattle.jet_law.specs.Terms.{poly_of}
-use Rattle.mono_exp.specs.Exponents.{IsIn}
 use Rattle.jet_poly.proofs.Steps.{if_ok}
 use Rattle.jacobian_row.specs.Rows.{polynomial_at}
 use Rattle.check_rows.specs.Lists.{list_at}

@@ -1,4 +1,4 @@
-use Rattle.std.proofs.Common.{◌≡◌, ◌≤◌}
+use Rattle.std.proofs.Common.{◌≡◌}
 use Rattle.poly_law.specs.Sums.{sum_to}
 use Rattle.poly_law.specs.Polynomials.{cut_in, times_in, poly_in}
 use Rattle.jet_law.specs.Terms.{poly_of}

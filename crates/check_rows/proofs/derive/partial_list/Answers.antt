@@ -1,4 +1,4 @@
-use Rattle.std.proofs.Common.{◌≡◌, ◌+◌, ◌≤◌, ◌++◌, [], ◌∷◌, get_or, length, sym, ap, subst, ◌∙◌, take_all, arith}
+use Rattle.std.proofs.Common.{◌≡◌, get_or, sym, ap, subst, ◌∙◌, take_all, arith}
 use Rattle.ring_law.proofs.Exits.{faulted}
 use Rattle.poly_law.specs.Sums.{multiple}
 use Rattle.poly_law.specs.Exps.{lower}

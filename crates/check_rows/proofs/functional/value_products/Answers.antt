@@ -1,4 +1,3 @@
-use Rattle.std.proofs.Common.{[], ◌∷◌, ◌++◌, subst, sym, ap}
 use Rattle.ring_law.proofs.Exits.{faulted}
 use Rattle.poly_law.specs.Polynomials.{term_in, times_in}
 use Rattle.jet_law.specs.Terms.{exp_of, poly_of}

@@ -1,4 +1,4 @@
-use Rattle.std.proofs.Common.{◌≡◌, ◌≤◌, subst, sym, arith}
+use Rattle.std.proofs.Common.{arith}
 use Rattle.ring_law.proofs.Exits.{faulted_by}
 use Rattle.jet_poly.proofs.Steps.{if_ok}
 use Rattle.report_jet.proofs.ReportJets.{algebra_valid}

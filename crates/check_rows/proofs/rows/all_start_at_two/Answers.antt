@@ -1,4 +1,4 @@
-use Rattle.std.proofs.Common.{◌≡◌, ℕ, ◌+◌, ◌<◌, ◌⊎◌, inl, inr, ◌∙◌, [], get_or, length, refl, sym, ap, subst, arith}
+use Rattle.std.proofs.Common.{◌≡◌, ℕ, ◌+◌, ◌<◌, ◌⊎◌, inl, inr, ◌∙◌, [], sym, ap, subst, arith}
 use Rattle.poly_law.specs.Polynomials.{StartsAtIn}
 use Rattle.jet_law.specs.Terms.{poly_of}
 use Rattle.jacobian_row.specs.Rows.{IsJetIn, polynomial_at}

@@ -1,4 +1,4 @@
-use Rattle.std.proofs.Common.{◌≡◌, ◌∙◌, ◌+◌, [], sym, ap, subst}
+use Rattle.std.proofs.Common.{◌∙◌, ◌+◌, [], subst}
 use Rattle.ring_law.proofs.Exits.{fault_handed_on}
 use Rattle.jacobian_row.specs.Rows.{polynomial_at}
 use Rattle.jacobian_row.proofs.ListSteps.{same_default}

@@ -1,4 +1,4 @@
-use Rattle.std.proofs.Common.{◌≡◌, ◌+◌, ◌<◌, length, sym, subst}
+use Rattle.std.proofs.Common.{◌+◌, ◌<◌, length, sym, subst}
 use Rattle.ring_law.proofs.Exits.{fault_handed_on}
 use Rattle.poly_law.specs.Polynomials.{SameIn, StartsAtIn, cut_in}
 use Rattle.jet_law.specs.Terms.{poly_of}

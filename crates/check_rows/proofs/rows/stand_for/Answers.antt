@@ -1,4 +1,4 @@
-use Rattle.std.proofs.Common.{◌≡◌, ◌∙◌, ◌+◌, ◌<◌, ◌++◌, [], ◌∷◌, length, get_or, map, sym, ap, ap₂, subst, take, take_all, arith}
+use Rattle.std.proofs.Common.{◌∙◌, ◌<◌, [], length, get_or, map, sym, ap, subst, take_all, arith}
 use Rattle.mono_exp.specs.declared.exponent.Exp.{Exp}
 use Rattle.mono_exp.specs.Exponents.{exponents, rank_of}
 use Rattle.jacobian_row.proofs.ListSteps.{same_default}
