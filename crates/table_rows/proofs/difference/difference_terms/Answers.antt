@@ -1,5 +1,4 @@
-use Rattle.std.proofs.Common.{◌≡◌, ◌∙◌, ◌+◌, ◌<◌, [], ◌∷◌, ◌++◌, get_or, length, refl, sym, ap, subst, arith}
-use Rattle.std.proofs.lemmas.List.Elements.{All-from_recursion}
+use Rattle.std.proofs.Common.{◌≡◌, ◌∙◌, ◌<◌, [], ◌∷◌, ◌++◌, get_or, length, refl, sym, ap, subst, arith}
 use Rattle.mono_exp.specs.declared.exponent.Exp.{Exp}
 use Rattle.jet_law.specs.Terms.{exp_of, poly_of}
 use Rattle.check_rows.specs.Lists.{AreTermsIn}
