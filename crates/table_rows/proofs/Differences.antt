@@ -41,8 +41,7 @@ module _ {E V : Type 0} (m : Meaning E V) (laws : ScalarLaws m.scalars) (n : ℕ
   cuts_decide k left right f h b e ef eh decides =
       let r = m.scalars.ops in
       let at : IsTrue b ↔ SameIn n m.scalars.ops (poly_of n m.value left.terms) (poly_of n m.value right.terms)
-          = subst (λ i. IsTrue b ↔ SameIn i m.scalars.ops (poly_of i m.value left.terms) (poly_of i m.value right.terms)) e decides in
-      (
+      = subst (λ i. IsTrue b ↔ SameIn i m.scalars.ops (poly_of i m.value left.terms) (poly_of i m.value right.terms)) e decides in (
         (λ yes d low. sym (Order.cut_same_to (exps n) (exps_are n) r laws.ring k f d low) ∙ sym (ef d) ∙ at.0 yes d ∙ eh d ∙ Order.cut_same_to (exps n) (exps_are n) r laws.ring k h d low),
         (λ same. at.1 (λ d. ef d ∙ Order.same-cut (exps n) (exps_are n) r laws.ring k f h same d ∙ sym (eh d))),
       )
