@@ -1,11 +1,10 @@
 -- A monomial less a combination of basis monomials, term by term.
-use Rattle.std.proofs.Common.{◌≡◌, ℕ, suc, ◌+◌, ◌<◌, ◌≤◌, Bool, List, [], ◌∷◌, ◌++◌, map, length, get_or, IsTrue, ◌↔◌, sym, ap, ap₂, subst, ◌∙◌, append_assoc, add-one}
+use Rattle.std.proofs.Common.{◌≡◌, ℕ, ◌+◌, ◌<◌, Bool, List, [], ◌∷◌, ◌++◌, map, length, get_or, IsTrue, ◌↔◌, sym, ap, ap₂, subst, ◌∙◌, append_assoc, add-one}
 use Rattle.std.proofs.lemmas.List.{get_or-map, map-append}
-use Rattle.ring_theory.specs.Ring.{RingOps}
 use Rattle.ring_theory.specs.Scalars.{Meaning, ScalarLaws}
 use Rattle.poly_law.specs.ExpList.{ExpList, exps}
-use Rattle.poly_law.specs.Poly.{coefficient, cut, of_basis, Same, SameTo}
-use Rattle.poly_law.specs.Polynomials.{Polynomial, SameIn, SameToIn, cut_in, poly_in, term_in}
+use Rattle.poly_law.specs.Poly.{of_basis}
+use Rattle.poly_law.specs.Polynomials.{Polynomial, SameIn, SameToIn, cut_in, term_in}
 use Rattle.poly_law.proofs.ExpLists.{exps_are}
 use Rattle.poly_law.proofs.Order
 use Rattle.mono_exp.specs.declared.exponent.Exp.{Exp}
@@ -14,7 +13,7 @@ use Rattle.jet_law.proofs.TermLemmas.{poly_of-push}
 use Rattle.jet_poly.specs.JetTerms.{JetTerms}
 use Rattle.jet_poly.specs.Jets.{polynomial_of}
 use Rattle.milnor_alg.specs.declared.quotient.TableRow.{TableRow}
-use Rattle.table_rows.specs.Tables.{difference, difference_of, values_in}
+use Rattle.table_rows.specs.Tables.{difference, values_in}
 
 module _ {E V : Type 0} (m : Meaning E V) (laws : ScalarLaws m.scalars) (n : ℕ) where
   -- one basis monomial more
