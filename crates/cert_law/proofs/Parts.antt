@@ -30,7 +30,7 @@ use Rattle.cert_law.proofs.Valid.{both, all_from, component_by}
 
 -- ---- names
 
-abbrev IsNameByte : ℕ → Type 0
+abbrev pub IsNameByte : ℕ → Type 0
 IsNameByte b = 48 ≤ b
 
 abbrev pub EndsName : ℕ → Type 0
@@ -49,7 +49,7 @@ letter_byte b e = elim (either (leb 65 b && leb b 90) (leb 97 b && leb b 122) e)
   | inr lower ↦ (let h = leb-true 97 b (both (leb 97 b) (leb b 122) lower).0 in omega (arith, h))
 ]
 
-name_bytes : (name : List ℕ) → is_name name ≡ true → AllByRecursion IsNameByte name
+pub name_bytes : (name : List ℕ) → is_name name ≡ true → AllByRecursion IsNameByte name
 name_bytes [] e = tt
 name_bytes (c ∷ cs) e =
     let h = both (is_letter c) (list_all is_digit cs && leb (length cs) 3) e in

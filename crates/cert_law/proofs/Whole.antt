@@ -97,7 +97,7 @@ answers_one (answers.Outside r) b x y wa wb i e = absurd (omega (arith, i))
 answers_one (answers.Limit r) b x y wa wb i e = absurd (omega (arith, i))
 answers_one (answers.Unresolved r) b x y wa wb i e = absurd (omega (arith, i))
 
-answer_one : (a b : Answer) (x y : List ℕ) → IsWellFormedAnswer a → IsWellFormedAnswer b → answer_text a ++ x ≡ answer_text b ++ y → (a ≡ b) × (x ≡ y)
+pub answer_one : (a b : Answer) (x y : List ℕ) → IsWellFormedAnswer a → IsWellFormedAnswer b → answer_text a ++ x ≡ answer_text b ++ y → (a ≡ b) × (x ≡ y)
 answer_one a b x y wa wb e = answers_one a b x y wa wb (sym (answer_index_is a x) ∙ ap answer_in e ∙ answer_index_is b y) e
 
 -- ---- reports

@@ -1,0 +1,8 @@
+//! Reading reports from their text.
+#![tactic(auto)]
+
+mod error;
+mod report;
+
+pub use error::ReadError;
+pub use report::read_report;
