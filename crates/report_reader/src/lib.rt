@@ -2,6 +2,7 @@
 #![tactic(auto)]
 
 mod error;
+mod halt;
 mod report;
 
 pub use error::ReadError;
