@@ -10,6 +10,7 @@ mod monomial;
 mod name;
 mod number;
 mod piece;
+mod polynomial;
 mod splitting;
 mod word;
 
@@ -21,5 +22,6 @@ pub use modulus_line::read_modulus_line;
 pub use monomial::read_monomial;
 pub use name::read_name;
 pub use number::{read_u8, read_u32, read_u64};
+pub use polynomial::read_polynomial;
 pub use splitting::{split_at_byte, strip_front};
 pub use word::{read_pattern, read_phase, read_what};
