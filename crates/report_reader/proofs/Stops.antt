@@ -1,9 +1,9 @@
 -- Stops of blocks: at the first line, behind a line, in the first of two blocks.
 use Rattle.std.proofs.Common.{◌≡◌, ℕ, zero, suc, ◌+◌, ◌<◌, ◌≤◌, ◌⊎◌, inl, inr, List, [], ◌∷◌, ◌++◌, length, refl, sym, ap, ◌∙◌, subst, append_assoc, length-append, arith}
-use Rattle.std.specs.List.{AllByRecursion}
 use Rattle.cert_text.specs.BadText.{IsWholeLines}
 use Rattle.cert_law.specs.Unique.{IsSelfEnding}
 use Rattle.cert_law.proofs.Cut.{head, same_front}
+use Rattle.report_reader.specs.Lines.{IsClean}
 use Rattle.report_reader.specs.Blocks.{Begins, IsStop}
 
 -- ---- lists
@@ -24,10 +24,6 @@ shorter_front (x ∷ a) b (y ∷ c) d e le =
     record { more = r.more; long = cc (h.0, long); rest = r.rest }
 
 -- ---- whole lines
-
--- no newline
-abbrev pub IsClean : List ℕ → Type 0
-IsClean bytes = AllByRecursion (λ b. b ≡ 10 → ⊥) bytes
 
 -- one line, with its newline
 pub record IsLine (h : List ℕ) : Type 0 where

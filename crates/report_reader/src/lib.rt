@@ -3,6 +3,7 @@
 
 mod error;
 mod halt;
+mod line;
 mod report;
 
 pub use error::ReadError;

@@ -1,0 +1,101 @@
+-- Texts that stand at the front of bytes: words, lines, and values in a line.
+use Rattle.std.proofs.Common.{◌≡◌, ℕ, ◌<◌, ◌≤◌, ◌^◌, List, [], ◌∷◌, ◌++◌, length, refl, sym, ap, ◌∙◌, subst, append_assoc, arith}
+use Rattle.std.specs.List.{AllByRecursion}
+use Rattle.std.specs.Prelude.{decimal}
+use Rattle.cert_text.specs.declared.word.Word.{Word}
+use Rattle.cert_text.specs.declared.word.Word.TheVariants as words
+use Rattle.cert_text.specs.Words.{word_text}
+use Rattle.cert_text.specs.Text.{line, word_line}
+use Rattle.cert_law.proofs.Cut.{head, same_front}
+use Rattle.cert_law.proofs.Carrying.{word_rest}
+use Rattle.text_reader.specs.Reading.{IsTextOf, IsNoText}
+use Rattle.text_reader.proofs.Visible.{cut_at, digits_lack}
+use Rattle.text_reader.proofs.Fractions.{decimal_same}
+use Rattle.report_reader.specs.Lines.{IsClean, IsWithin}
+use Rattle.report_reader.specs.Blocks.{IsAtFront, IsNotAtFront}
+use Rattle.report_reader.proofs.Stops.{IsLine}
+
+-- a line, and what stands behind it
+pub line_text : (w more : List ℕ) → line w ++ more ≡ w ++ 10 ∷ more
+unfolding line
+line_text w more = append_assoc w (10 ∷ []) more
+
+-- a word line, and what stands behind it
+pub word_line_text : (w : Word) (t more : List ℕ) → word_line w t ++ more ≡ word_text w ++ 32 ∷ (t ++ 10 ∷ more)
+unfolding word_line line
+word_line_text w t more = simp append_assoc
+
+-- no word holds a newline
+pub word_clean : (w : Word) → IsClean (word_text w)
+unfolding word_text
+word_clean words.Germ = omega arith
+word_clean words.Long = omega arith
+word_clean words.TooLong = omega arith
+word_clean words.Syntax = omega arith
+word_clean words.Literal = omega arith
+word_clean words.NotCritical = omega arith
+word_clean words.Range = omega arith
+word_clean words.Field = omega arith
+word_clean words.Unbuilt = omega arith
+word_clean words.Named = omega arith
+word_clean words.Outside = omega arith
+word_clean words.Limit = omega arith
+word_clean words.Unresolved = omega arith
+word_clean words.Order = omega arith
+word_clean words.Algebra = omega arith
+word_clean words.Corank = omega arith
+word_clean words.Change = omega arith
+word_clean words.Inverse = omega arith
+word_clean words.Form = omega arith
+word_clean words.Jet = omega arith
+word_clean words.Units = omega arith
+word_clean words.Modulus = omega arith
+word_clean words.Milnor = omega arith
+word_clean words.Mather = omega arith
+word_clean words.Basis = omega arith
+word_clean words.Table = omega arith
+word_clean words.Functional = omega arith
+word_clean words.End = omega arith
+
+pub clean-append : (a b : List ℕ) → IsClean a → IsClean b → IsClean (a ++ b)
+clean-append [] b ca cb = cb
+clean-append (x ∷ a) b ca cb = (ca.0, clean-append a b ca.1 cb)
+
+-- a clean text makes one line
+pub line-line : (w : List ℕ) → IsClean w → IsLine (line w)
+unfolding line
+line-line w c = record { body = w; clean = c; is = refl }
+
+pub line-word : (w : Word) → IsLine (line (word_text w))
+line-word w = line-line (word_text w) (word_clean w)
+
+pub line-word_line : (w : Word) (t : List ℕ) → IsClean t → IsLine (word_line w t)
+unfolding word_line
+line-word_line w t c = line-line (word_text w ++ 32 ∷ t) (clean-append (word_text w) (32 ∷ t) (word_clean w) ((λ e. omega (arith, e)), c))
+
+-- ---- values in a word line, by the text behind the word and the rest
+
+-- the text that was cut off is that of the value
+pub value_at : {A : Type 0} (valid : A → Type 0) (text : A → List ℕ) (w : Word) (bytes body rest : List ℕ) → ((v : A) → valid v → IsClean (text v)) → IsClean body → word_line w body ++ rest ≡ bytes → IsNoText valid text body → IsNotAtFront valid (λ v. word_line w (text v)) bytes
+value_at valid text w bytes body rest clean cb e none v more ok f =
+    let h = cut_at 10 (text v) body more rest (clean v ok) cb (word_rest w (text v) body more rest (f ∙ sym e)) in
+    none v ok h.0
+
+-- there is no such line
+pub line_absent : {A : Type 0} (valid : A → Type 0) (text : A → List ℕ) (w : Word) (bytes : List ℕ) → ((v : A) → valid v → IsClean (text v)) → IsNotAtFront IsClean (word_line w) bytes → IsNotAtFront valid (λ v. word_line w (text v)) bytes
+line_absent valid text w bytes clean none v more ok f = none (text v) more (clean v ok) f
+
+-- ---- numbers
+
+pub within_clean : (least most : ℕ) → most < 2 ^ 64 → (n : ℕ) → IsWithin least most n → IsClean (decimal n)
+within_clean least most lt n w = digits_lack 10 n (omega arith) (let le = w.1 in omega (arith, le, lt))
+
+-- a number that is too low or too high is none within
+pub within_none : (least most n : ℕ) (bytes : List ℕ) → most < 2 ^ 64 → n < 2 ^ 64 → decimal n ≡ bytes → (IsWithin least most n → ⊥) → IsNoText (IsWithin least most) decimal bytes
+within_none least most n bytes lt small own not_in v w e =
+    let le = w.1 in
+    let same = decimal_same v n (omega (arith, le, lt)) (omega (arith, small)) (e ∙ sym own) in
+    not_in (subst (IsWithin least most) same w)
+
+pub no_u64 : (least most : ℕ) (bytes : List ℕ) → most < 2 ^ 64 → IsNoText (λ n. n < 2 ^ 64) decimal bytes → IsNoText (IsWithin least most) decimal bytes
+no_u64 least most bytes lt none v w e = none v (let le = w.1 in omega (arith, le, lt)) e
