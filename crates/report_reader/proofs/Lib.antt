@@ -1,2 +1,4 @@
 pub mod Stops
 pub mod Fronts
+pub mod Shown
+pub mod Words

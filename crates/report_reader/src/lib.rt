@@ -1,10 +1,13 @@
 //! Reading reports from their text.
 #![tactic(auto)]
 
+mod change;
 mod error;
+mod frame;
 mod halt;
 mod line;
 mod report;
+mod value;
 
 pub use error::ReadError;
 pub use report::read_report;

@@ -1,0 +1,114 @@
+//! The lines from a change to the jet.
+
+ghost use Rattle.std.specs.Prelude.{◌≡◌, ◌++◌, ◌≤◌, None, IfOk, IfErr, IfSome, length};
+ghost use Rattle.poly_text.specs.Polynomials.{jet_text};
+ghost use Rattle.cert_text.specs.Text.{word_line, rows_text, line, spaced};
+ghost use Rattle.cert_text.specs.WellFormed.{IsJetOf};
+ghost use Rattle.row_reader.specs.Rows.{IsNamedPart};
+ghost use Rattle.row_reader.specs.Values.{AreElements};
+ghost use Rattle.report_reader.specs.Blocks.{IsAtFront, IsNotAtFront, IsHalt};
+ghost use Rattle.report_reader.specs.States.{IsFrame, IsFramed, part_line, lines_of, change_text, AreParts, AreSoMany, ArePassed, AreRowsOf, change_rest};
+
+use crate::frame::{Frame, Parts};
+use crate::halt::Halt;
+use crate::line::{take_line, take_word_line};
+use cert_text::{Carried, Word};
+use coord_change::Change;
+use ext_algebra::{Algebra, Ext};
+use jet_poly::Jet;
+use poly_text::Name;
+use ring_law::{Frac, NoMemory};
+use row_reader::{read_elements, read_part};
+use sqlite_items::Items;
+use std::alloc::Global;
+use text_reader::{read_polynomial, split_at_byte};
+
+// The part of a change in n variables in the line at the front.
+fn take_part(
+    alloc: Global,
+    frame: Frame,
+    n: u8,
+    bytes: &[u8],
+) -> Result<Option<((Name, Jet<Ext<Frac>>), &[u8])>, NoMemory>
+    requires frame { IsFrame frame }
+    ensures some { IfOk result (λ found. IfSome found (IsAtFront (IsNamedPart frame.algebra n frame.order) part_line bytes.now)) }
+    ensures none { IfOk result (λ found. found ≡ None → IsNotAtFront (IsNamedPart frame.algebra n frame.order) part_line bytes.now) }
+{
+    match split_at_byte(bytes, b'\n') {
+        None => Ok(None),
+        Some((text, rest)) => match read_part(alloc, frame.algebra, n, frame.order, text) {
+            Err(NoMemory) => Err(NoMemory),
+            Ok(None) => Ok(None),
+            Ok(Some(part)) => Ok(Some((part, rest))),
+        },
+    }
+}
+
+// The lines at the front that are parts in eight variables, at most eight, and what stands behind them.
+fn pass_parts(alloc: Global, frame: Frame, bytes: &[u8]) -> Result<(u8, &[u8]), NoMemory>
+    requires frame { IsFrame frame }
+    ensures { IfOk result (ArePassed frame bytes.now) }
+{
+    let mut rest = bytes;
+    for count in 0..8u8 {
+        match take_part(alloc, frame, 8, rest) {
+            Err(NoMemory) => return Err(NoMemory),
+            Ok(None) => return Ok((count, rest)),
+            Ok(Some((_, after))) => rest = after,
+        }
+    }
+    Ok((8, rest))
+}
+
+// So many parts in n variables at the front.
+fn take_parts(
+    alloc: Global,
+    frame: Frame,
+    n: u8,
+    bytes: &[u8],
+) -> Result<Option<(Parts, &[u8])>, NoMemory>
+    requires frame { IsFrame frame }
+    ensures some { IfOk result (λ found. IfSome found (IsAtFront (AreSoMany frame n n) lines_of bytes.now)) }
+    ensures none { IfOk result (λ found. found ≡ None → IsNotAtFront (AreSoMany frame n n) lines_of bytes.now) }
+{
+    let mut rest = bytes;
+    let mut names = Items::new(alloc);
+    let mut parts = Items::new(alloc);
+    for _count in 0..n {
+        match take_part(alloc, frame, n, rest) {
+            Err(NoMemory) => return Err(NoMemory),
+            Ok(None) => return Ok(None),
+            Ok(Some(((name, part), after))) => {
+                rest = after;
+                if names.push(name).is_err() || parts.push(part).is_err() {
+                    return Err(NoMemory);
+                }
+            }
+        }
+    }
+    Ok(Some((Parts { names, parts }, rest)))
+}
+
+/// The parts of a change up to the line `inverse`, at the front.
+fn read_parts(alloc: Global, frame: Frame, bytes: &[u8]) -> Result<(Parts, &[u8]), Halt>
+    requires frame { IsFrame frame }
+    ensures ok { IfOk result (IsAtFront (AreParts frame) change_text bytes.now) }
+    ensures halt { IfErr result (IsHalt (AreParts frame) change_text bytes.now) }
+{
+    let (count, behind) = match pass_parts(alloc, frame, bytes) {
+        Err(NoMemory) => return Err(Halt::NoMemory),
+        Ok(passed) => passed,
+    };
+    let stop = Halt::Stop { left: behind.len() };
+    let Some(rest) = take_line(Word::Inverse, behind) else {
+        return Err(stop);
+    };
+    if count == 0 || count < frame.corank {
+        return Err(stop);
+    }
+    match take_parts(alloc, frame, count, bytes) {
+        Err(NoMemory) => Err(Halt::NoMemory),
+        Ok(None) => Err(stop),
+        Ok(Some((parts, _))) => Ok((parts, rest)),
+    }
+}
