@@ -9,7 +9,7 @@ use Rattle.cert_text.specs.Text.{line, word_line}
 use Rattle.cert_law.proofs.Cut.{head, same_front}
 use Rattle.cert_law.proofs.Carrying.{word_rest}
 use Rattle.text_reader.specs.Reading.{IsTextOf, IsNoText}
-use Rattle.text_reader.proofs.Visible.{cut_at, digits_lack}
+use Rattle.text_reader.proofs.Visible.{cut_at, unsplit, digits_lack}
 use Rattle.text_reader.proofs.Fractions.{decimal_same}
 use Rattle.report_reader.specs.Lines.{IsClean, IsWithin}
 use Rattle.report_reader.specs.Blocks.{IsAtFront, IsNotAtFront}
@@ -72,6 +72,21 @@ line-word w = line-line (word_text w) (word_clean w)
 pub line-word_line : (w : Word) (t : List ℕ) → IsClean t → IsLine (word_line w t)
 unfolding word_line
 line-word_line w t c = line-line (word_text w ++ 32 ∷ t) (clean-append (word_text w) (32 ∷ t) (word_clean w) ((λ e. omega (arith, e)), c))
+
+-- ---- values that are a line
+
+-- bytes with no newline hold no line
+pub no_line_at : {A : Type 0} (valid : A → Type 0) (inside : A → List ℕ) (bytes : List ℕ) → IsClean bytes → IsNotAtFront valid (λ v. line (inside v)) bytes
+no_line_at valid inside bytes clean v more ok e = unsplit 10 (inside v) more bytes clean (sym (line_text (inside v) more) ∙ e)
+
+-- the line that was cut off is that of the value
+pub line_value_at : {A : Type 0} (valid : A → Type 0) (inside : A → List ℕ) (bytes body rest : List ℕ) → ((v : A) → valid v → IsClean (inside v)) → IsClean body → bytes ≡ body ++ 10 ∷ rest → IsNoText valid inside body → IsNotAtFront valid (λ v. line (inside v)) bytes
+line_value_at valid inside bytes body rest clean cb is none v more ok e =
+    let h = cut_at 10 (inside v) body more rest (clean v ok) cb (sym (line_text (inside v) more) ∙ e ∙ is) in
+    none v ok h.0
+
+pub line_front : (text body rest bytes : List ℕ) → text ≡ body → bytes ≡ body ++ 10 ∷ rest → line text ++ rest ≡ bytes
+line_front text body rest bytes same is = line_text text rest ∙ ap (λ (z : List ℕ). z ++ 10 ∷ rest) same ∙ sym is
 
 -- ---- values in a word line, by the text behind the word and the rest
 

@@ -1,5 +1,5 @@
 -- What is known of the value of a block when some of its lines are read, and the texts that follow.
-use Rattle.std.specs.Prelude.{◌≡◌, ℕ, ◌<◌, ◌≤◌, ◌*◌, IsTrue, List, ◌++◌, length}
+use Rattle.std.specs.Prelude.{◌≡◌, ℕ, ◌<◌, ◌≤◌, ◌*◌, IsTrue, List, [], ◌∷◌, ◌++◌, length}
 use Rattle.std.specs.List.{AllByRecursion, list_all}
 use Rattle.std.specs.Borrow.{Bor}
 use Rattle.ring_law.specs.declared.fraction.Frac.{Frac}
@@ -64,6 +64,10 @@ pub record AreParts (f : Frame) (p : Parts) : Type 0 where
 pub record AreSoMany (f : Frame) (n count : ℕ) (p : Parts) : Type 0 where
   pub parts : ArePartsIn f n p
   pub long : length p.names ≡ count
+
+-- one more part
+abbrev pub pushed : Parts → Name × JetTerms (Ext Frac) → Parts
+pushed p part = record { names = p.names ++ part.0 ∷ []; parts = p.parts ++ part.1 ∷ [] }
 
 -- the lines at the front that are parts in eight variables, at most eight of them, and what stands behind these
 pub record ArePassed (f : Frame) (bytes : List ℕ) (found : ℕ × Bor (List ℕ)) : Type 0 where

@@ -72,21 +72,21 @@ fn take_parts(
     ensures none { IfOk result (λ found. found ≡ None → IsNotAtFront (AreSoMany frame n n) lines_of bytes.now) }
 {
     let mut rest = bytes;
-    let mut names = Items::new(alloc);
-    let mut parts = Items::new(alloc);
+    let mut parts = Parts::new(alloc);
     for _count in 0..n {
         match take_part(alloc, frame, n, rest) {
             Err(NoMemory) => return Err(NoMemory),
             Ok(None) => return Ok(None),
-            Ok(Some(((name, part), after))) => {
+            Ok(Some((part, after))) => {
                 rest = after;
-                if names.push(name).is_err() || parts.push(part).is_err() {
-                    return Err(NoMemory);
+                match parts.push(part) {
+                    Err(NoMemory) => return Err(NoMemory),
+                    Ok(()) => {}
                 }
             }
         }
     }
-    Ok(Some((Parts { names, parts }, rest)))
+    Ok(Some((parts, rest)))
 }
 
 /// The parts of a change up to the line `inverse`, at the front.
