@@ -14,10 +14,12 @@ use Rattle.cert_text.specs.Words.{word_text}
 use Rattle.cert_text.specs.Text.{line, part_text, parts_text}
 use Rattle.cert_text.specs.BadText.{IsWholeLines}
 use Rattle.cert_text.specs.WellFormed.{is_valid_name, is_monomial_in, is_term_of, is_zero_element, has_no_constant, IsJetOf, IsPartOf}
-use Rattle.cert_law.specs.Fields.{Element, Term, IsPolynomial}
+use Rattle.cert_law.specs.Unique.{IsSelfEnding}
+use Rattle.cert_law.specs.Fields.{Element, Term, IsPolynomial, IsReadableJet}
 use Rattle.cert_law.proofs.Cut.{head, same_front}
 use Rattle.cert_law.proofs.Valid.{both, all_to, polynomial_by}
 use Rattle.cert_law.proofs.Parts as law
+use Rattle.cert_law.proofs.Carrying.{part_lines, jets_same, readable}
 use Rattle.row_reader.specs.Rows.{IsNamedPart, part_inside}
 use Rattle.report_reader.specs.declared.frame.Frame.{Frame}
 use Rattle.report_reader.specs.declared.frame.Parts.{Parts}
@@ -384,3 +386,75 @@ parts_stop f count passed bytes behind fw h few e none last =
     (stop_here (Follows f passed) change_text behind start.0 start.1 (λ w s. follower_apart f count passed w behind fw h s none
       (λ z more q. last s.whole more s.valid (let size = s.size in let long = h.long in omega (arith, size, long, z))
       (ap (λ (b : List ℕ). b ++ more) (s.text ∙ ap (λ (b : List ℕ). lines_of passed ++ b) (empty_text w.names w.parts z)) ∙ append_assoc (lines_of passed) (line (word_text words.Inverse)) more ∙ ap (λ (b : List ℕ). lines_of passed ++ b) q ∙ e))))
+
+-- ---- the cases in which no change has just the parts that stand at the front
+
+-- no line `inverse` follows
+pub no_inverse : (f : Frame) (count : ℕ) (passed : Parts) (bytes behind : List ℕ) → IsFrame f → AreSoMany f 8 count passed → lines_of passed ++ behind ≡ bytes
+    → ((more : List ℕ) → line (word_text words.Inverse) ++ more ≡ behind → ⊥)
+    → (v : Parts) (more : List ℕ) → AreParts f v → length v.names ≡ count → change_text v ++ more ≡ bytes → ⊥
+unfolding change_text
+no_inverse f count passed bytes behind w h text none v more ok size e =
+    let long = h.long in
+    none more (sym (many_same f 8 (length v.names) passed v behind (line (word_text words.Inverse) ++ more) w h.parts ok.parts (long ∙ sym size) (text ∙ sym e ∙ append_assoc (lines_of v) (line (word_text words.Inverse)) more)))
+
+-- they are not parts in so many variables
+pub none_so_many : (f : Frame) (count : ℕ) (bytes : List ℕ) → IsNotAtFront (AreSoMany f count count) lines_of bytes
+    → (v : Parts) (more : List ℕ) → AreParts f v → length v.names ≡ count → change_text v ++ more ≡ bytes → ⊥
+unfolding change_text
+none_so_many f count bytes none v more ok size e =
+    none v (line (word_text words.Inverse) ++ more) (record { parts = subst (λ (n : ℕ). ArePartsIn f n v) size ok.parts; long = size }) (sym (append_assoc (lines_of v) (line (word_text words.Inverse)) more) ∙ e)
+
+-- the parts, and the line `inverse`
+pub parts_read : (f : Frame) (count : ℕ) (passed p : Parts) (bytes behind rest after : List ℕ) → IsFrame f → AreSoMany f 8 count passed → lines_of passed ++ behind ≡ bytes → AreSoMany f count count p → lines_of p ++ after ≡ bytes
+    → line (word_text words.Inverse) ++ rest ≡ behind → change_text p ++ rest ≡ bytes
+unfolding change_text
+parts_read f count passed p bytes behind rest after w h text hp read inverse =
+    append_assoc (lines_of p) (line (word_text words.Inverse)) rest ∙ ap (λ (z : List ℕ). lines_of p ++ z)
+    (inverse ∙ many_same f 8 count passed p behind after w h.parts hp.parts (h.long ∙ sym hp.long) (text ∙ sym read)) ∙ read
+
+pub parts_are : (f : Frame) (count : ℕ) (p : Parts) → AreSoMany f count count p → 1 ≤ count → count ≤ 8 → f.corank ≤ count → AreParts f p
+parts_are f count p h some few corank =
+    let long = h.long in
+    record { some_name = omega (arith, long, some); few_names = omega (arith, long, few); corank = omega (arith, long, corank); parts = subst (λ (n : ℕ). ArePartsIn f n p) (sym long) h.parts }
+
+-- no parts, no lines
+pub no_lines : (bytes : List ℕ) → lines_of (record { names = []; parts = [] }) ++ bytes ≡ bytes
+unfolding parts_text
+no_lines bytes = refl
+
+pub many_start : (f : Frame) (n : ℕ) (p : Parts) (bytes : List ℕ) → p ≡ record { names = []; parts = [] } → AreSoMany f n 0 p × (lines_of p ++ bytes ≡ bytes)
+many_start f n p bytes e = (subst (AreSoMany f n 0) (sym e) (many_none f n), ap (λ (z : Parts). lines_of z ++ bytes) e ∙ no_lines bytes)
+
+pub many_same_value : (f : Frame) (n k : ℕ) (p q : Parts) (after bytes : List ℕ) → p ≡ q → AreSoMany f n k q → lines_of q ++ after ≡ bytes → AreSoMany f n k p × (lines_of p ++ after ≡ bytes)
+many_same_value f n k p q after bytes e h t = (subst (AreSoMany f n k) (sym e) h, ap (λ (z : Parts). lines_of z ++ after) e ∙ t)
+
+-- ---- a change is told from its lines
+
+pub change_whole : (f : Frame) (p : Parts) → IsFrame f → AreParts f p → IsWholeLines (change_text p)
+unfolding change_text
+change_whole f p w h = whole-append (lines_of p) (line (word_text words.Inverse)) (parts_whole f (length p.names) p.names p.parts w h.parts.names h.parts.parts) (whole-line (line (word_text words.Inverse)) (line-word words.Inverse))
+
+parts_is : (p q : Parts) → p.names ≡ q.names → p.parts ≡ q.parts → p ≡ q
+parts_is p q a b = λ i. record { names = a i; parts = b i }
+
+readable_part : (f : Frame) (n : ℕ) → IsFrame f → (g : JetTerms Element) → IsPartOf n f.order f.algebra g → IsReadableJet n f.order g
+readable_part f n w g h = let le = w.order_at_most in readable n f.order f.algebra le g h.jet
+
+pub change_told : (f : Frame) → IsFrame f → IsSelfEnding (AreParts f) change_text
+unfolding change_text
+change_told f w = record {
+  one = λ p q x y op oq e.
+    let h = part_lines p.names q.names p.parts q.parts x y (polynomials f (length p.names) p w op.parts) (polynomials f (length q.names) q w oq.parts)
+    (sym (append_assoc (lines_of p) (line (word_text words.Inverse)) x) ∙ e ∙ append_assoc (lines_of q) (line (word_text words.Inverse)) y) in
+    let as_many = subst (λ (ns : List Name). AllByRecursion (IsReadableJet (length ns) f.order) q.parts) (sym h.0) (all_to (IsPartOf (length q.names) f.order f.algebra) (IsReadableJet (length q.names) f.order) (readable_part f (length q.names) w) q.parts oq.parts.parts) in
+    let parts = jets_same (length p.names) f.order p.parts q.parts (all_to (IsPartOf (length p.names) f.order f.algebra) (IsReadableJet (length p.names) f.order) (readable_part f (length p.names) w) p.parts op.parts.parts) as_many h.1 in
+    (parts_is p q h.0 parts, h.2);
+}
+
+-- parts x = 0
+pub some_parts : (f : Frame) → IsFrame f → (p : Parts) × AreParts f p
+some_parts f w =
+    let none = many_none f 8 in
+    let c = completed f 0 (record { names = []; parts = [] }) w none (omega arith) in
+    (c.1.whole, c.1.valid)

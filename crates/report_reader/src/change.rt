@@ -73,7 +73,7 @@ fn take_parts(
 {
     let mut rest = bytes;
     let mut parts = Parts::new(alloc);
-    for _count in 0..n {
+    for count in 0..n {
         match take_part(alloc, frame, n, rest) {
             Err(NoMemory) => return Err(NoMemory),
             Ok(None) => return Ok(None),
@@ -100,8 +100,9 @@ fn read_parts(alloc: Global, frame: Frame, bytes: &[u8]) -> Result<(Parts, &[u8]
         Ok(passed) => passed,
     };
     let stop = Halt::Stop { left: behind.len() };
-    let Some(rest) = take_line(Word::Inverse, behind) else {
-        return Err(stop);
+    let rest = match take_line(Word::Inverse, behind) {
+        None => return Err(stop),
+        Some(rest) => rest,
     };
     if count == 0 || count < frame.corank {
         return Err(stop);
@@ -110,5 +111,77 @@ fn read_parts(alloc: Global, frame: Frame, bytes: &[u8]) -> Result<(Parts, &[u8]
         Err(NoMemory) => Err(Halt::NoMemory),
         Ok(None) => Err(stop),
         Ok(Some((parts, _))) => Ok((parts, rest)),
+    }
+}
+
+// The row of n elements in the line at the front.
+fn take_row(
+    alloc: Global,
+    algebra: Algebra,
+    n: u8,
+    bytes: &[u8],
+) -> Result<Option<(Items<Ext<Frac>>, &[u8])>, NoMemory>
+    ensures some { IfOk result (λ found. IfSome found (IsAtFront (AreElements algebra n) (λ es. line (spaced es)) bytes.now)) }
+    ensures none { IfOk result (λ found. found ≡ None → IsNotAtFront (AreElements algebra n) (λ es. line (spaced es)) bytes.now) }
+{
+    match split_at_byte(bytes, b'\n') {
+        None => Ok(None),
+        Some((text, rest)) => match read_elements(alloc, algebra, n as usize, text) {
+            Err(NoMemory) => Err(NoMemory),
+            Ok(None) => Ok(None),
+            Ok(Some(row)) => Ok(Some((row, rest))),
+        },
+    }
+}
+
+// The matrix of n rows of n elements at the front.
+fn read_matrix(
+    alloc: Global,
+    frame: Frame,
+    n: u8,
+    bytes: &[u8],
+) -> Result<(Items<Ext<Frac>>, &[u8]), Halt>
+    ensures ok { IfOk result (IsAtFront (AreRowsOf frame n n) (rows_text n n) bytes.now) }
+    ensures halt { IfErr result (IsHalt (AreRowsOf frame n n) (rows_text n n) bytes.now) }
+{
+    let mut rest = bytes;
+    let mut elements = Items::new(alloc);
+    for count in 0..n {
+        match take_row(alloc, frame.algebra, n, rest) {
+            Err(NoMemory) => return Err(Halt::NoMemory),
+            Ok(None) => return Err(Halt::Stop { left: rest.len() }),
+            Ok(Some((row, after))) => {
+                rest = after;
+                match elements.append(row) {
+                    Err(_) => return Err(Halt::NoMemory),
+                    Ok(()) => {}
+                }
+            }
+        }
+    }
+    Ok((elements, rest))
+}
+
+// The jet in n variables in the line of this word at the front.
+fn take_jet(
+    alloc: Global,
+    word: Word,
+    frame: Frame,
+    n: u8,
+    bytes: &[u8],
+) -> Result<Option<(Jet<Ext<Frac>>, &[u8])>, NoMemory>
+    requires frame { IsFrame frame }
+    ensures some { IfOk result (λ found. IfSome found (IsAtFront (IsJetOf n frame.order frame.algebra) (λ f. word_line word (jet_text f)) bytes.now)) }
+    ensures none { IfOk result (λ found. found ≡ None → IsNotAtFront (IsJetOf n frame.order frame.algebra) (λ f. word_line word (jet_text f)) bytes.now) }
+{
+    match take_word_line(word, bytes) {
+        None => Ok(None),
+        Some((text, rest)) => {
+            match read_polynomial(alloc, frame.algebra, n, frame.order, text) {
+                Err(NoMemory) => Err(NoMemory),
+                Ok(None) => Ok(None),
+                Ok(Some(jet)) => Ok(Some((jet, rest))),
+            }
+        }
     }
 }

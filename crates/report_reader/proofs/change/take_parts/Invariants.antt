@@ -3,5 +3,5 @@ use Rattle.report_reader.specs.States.{lines_of, AreSoMany}
 use Rattle.report_reader.proofs.change.take_parts.Given as goal
 
 -- the parts read so far
-abbrev pub invariant-loop-_count : goal.invariant-loop-_count
-invariant-loop-_count l = AreSoMany l.frame l.n l._count l.parts × (lines_of l.parts ++ l.rest ≡ l.bytes)
+abbrev pub invariant-loop-count : goal.invariant-loop-count
+invariant-loop-count l = AreSoMany l.frame l.n l.count l.parts × (lines_of l.parts ++ l.rest ≡ l.bytes)
