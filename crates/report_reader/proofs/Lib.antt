@@ -6,3 +6,4 @@ pub mod PartLines
 pub mod Found
 pub mod RowLines
 pub mod Matrix
+pub mod CarriedLines

@@ -3,6 +3,7 @@ use Rattle.std.proofs.Common.{◌≡◌, ℕ, zero, suc, ◌+◌, ◌*◌, ◌<�
 use Rattle.std.specs.Prelude.{IsTrue}
 use Rattle.std.specs.List.{AllByRecursion, flat_map, list_all}
 use Rattle.std.proofs.lemmas.List.{take-append-drop, length-take-le}
+use Rattle.ring_theory.specs.Gcd as gcds
 use Rattle.ring_law.specs.declared.fraction.Frac.{Frac}
 use Rattle.ext_algebra.specs.declared.algebra.Algebra.{Algebra}
 use Rattle.ext_algebra.specs.declared.algebra.Algebra.TheVariants.{Rational, Quadratic, Cubic}
@@ -126,7 +127,7 @@ parted_rows f (suc r) n es h =
     (take n es ∷ others.0, (omega (arith, many), (record { count_is = length-take-le n es enough; elements = t.0 }, others.1.1)), ap (λ (z : List ℕ). row_line (take n es) ++ z) others.2)
 
 zero_valid : (a : Algebra) → is_element a zero_element ≡ true
-unfolding is_element
+unfolding is_element gcds.gcd
 zero_valid Rational = refl
 zero_valid (Quadratic m1 m0) = refl
 zero_valid (Cubic m2 m1 m0) = refl

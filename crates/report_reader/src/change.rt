@@ -185,3 +185,60 @@ fn take_jet(
         }
     }
 }
+
+/// The lines behind `change`: the parts, the matrix, and the jet in the line of this word.
+pub(crate) fn read_change(
+    alloc: Global,
+    word: Word,
+    frame: Frame,
+    bytes: &[u8],
+) -> Result<(Carried, &[u8]), Halt>
+    requires frame { IsFrame frame }
+    ensures ok { IfOk result (IsAtFront (IsFramed frame) (change_rest word) bytes.now) }
+    ensures halt { IfErr result (IsHalt (IsFramed frame) (change_rest word) bytes.now) }
+{
+    let (parts, behind) = match read_parts(alloc, frame, bytes) {
+        Err(halt) => return Err(halt),
+        Ok(read) => read,
+    };
+    let n = parts.names.len() as u8;
+    let (inverse, last) = match read_matrix(alloc, frame, n, behind) {
+        Err(halt) => return Err(halt),
+        Ok(read) => read,
+    };
+    match take_jet(alloc, word, frame, n, last) {
+        Err(NoMemory) => Err(Halt::NoMemory),
+        Ok(None) => Err(Halt::Stop { left: last.len() }),
+        Ok(Some((jet, rest))) => Ok((carried(frame, parts, inverse, jet), rest)),
+    }
+}
+
+// The germ in new variables, of its blocks.
+fn carried(
+    frame: Frame,
+    parts: Parts,
+    inverse: Items<Ext<Frac>>,
+    jet: Jet<Ext<Frac>>,
+) -> Carried
+    requires few { length parts.names ≤ 8 }
+    ensures { result ≡ record {
+        names = parts.names; algebra = frame.algebra; order = frame.order; corank = frame.corank;
+        change = record { n = length parts.names; order = frame.order; parts = parts.parts; inverse = inverse };
+        jet = jet } }
+{
+    let Parts { names, parts } = parts;
+    let n = names.len() as u8;
+    Carried {
+        names,
+        algebra: frame.algebra,
+        order: frame.order,
+        corank: frame.corank,
+        change: Change {
+            n,
+            order: frame.order,
+            parts,
+            inverse,
+        },
+        jet,
+    }
+}

@@ -26,4 +26,5 @@ loop-count-preserved c =
 pub returns-clause-ok : goal.returns-clause-ok
 returns-clause-ok c =
     let i = c.loop-count.invariant in
-    ?
+    let size = i.1.0 in
+    matrix_read c.args.frame c.args.n i.0 c.loop-count.elements c.args.bytes.now c.loop-count.rest.now (omega (arith, size, c.loop-count-test.false, c.loop-count.auto.count-end), i.1.1) i.2 i.3
