@@ -114,3 +114,26 @@ within_none least most n bytes lt small own not_in v w e =
 
 pub no_u64 : (least most : ℕ) (bytes : List ℕ) → most < 2 ^ 64 → IsNoText (λ n. n < 2 ^ 64) decimal bytes → IsNoText (IsWithin least most) decimal bytes
 no_u64 least most bytes lt none v w e = none v (let le = w.1 in omega (arith, le, lt)) e
+
+-- ---- two fields with a blank between them
+
+abbrev pub Both : {A B : Type 0} → (A → Type 0) → (B → Type 0) → A × B → Type 0
+Both first second v = first v.0 × second v.1
+
+abbrev pub two_text : {A B : Type 0} → (A → List ℕ) → (B → List ℕ) → A × B → List ℕ
+two_text front back v = front v.0 ++ 32 ∷ back v.1
+
+pub no_blank : {A B : Type 0} (first : A → Type 0) (second : B → Type 0) (front : A → List ℕ) (back : B → List ℕ) (text : List ℕ) → AllByRecursion (λ b. b ≡ 32 → ⊥) text → IsNoText (Both first second) (two_text front back) text
+no_blank first second front back text lacks v ok e = unsplit 32 (front v.0) (back v.1) text lacks e
+
+cut_blank : {A B : Type 0} (first : A → Type 0) (front : A → List ℕ) (back : B → List ℕ) → ((a : A) → first a → AllByRecursion (λ b. b ≡ 32 → ⊥) (front a)) → (text one two : List ℕ) → text ≡ one ++ 32 ∷ two → AllByRecursion (λ b. b ≡ 32 → ⊥) one
+    → (a : A) (b : B) → first a → front a ++ 32 ∷ back b ≡ text → (front a ≡ one) × (back b ≡ two)
+cut_blank first front back lacks text one two e free a b ok q = cut_at 32 (front a) one (back b) two (lacks a ok) free (q ∙ e)
+
+pub no_first : {A B : Type 0} (first : A → Type 0) (second : B → Type 0) (front : A → List ℕ) (back : B → List ℕ) → ((a : A) → first a → AllByRecursion (λ b. b ≡ 32 → ⊥) (front a)) → (text one two : List ℕ) → text ≡ one ++ 32 ∷ two → AllByRecursion (λ b. b ≡ 32 → ⊥) one
+    → IsNoText first front one → IsNoText (Both first second) (two_text front back) text
+no_first first second front back lacks text one two e free none v ok q = none v.0 ok.0 (cut_blank first front back lacks text one two e free v.0 v.1 ok.0 q).0
+
+pub no_second : {A B : Type 0} (first : A → Type 0) (second : B → Type 0) (front : A → List ℕ) (back : B → List ℕ) → ((a : A) → first a → AllByRecursion (λ b. b ≡ 32 → ⊥) (front a)) → (text one two : List ℕ) → text ≡ one ++ 32 ∷ two → AllByRecursion (λ b. b ≡ 32 → ⊥) one
+    → IsNoText second back two → IsNoText (Both first second) (two_text front back) text
+no_second first second front back lacks text one two e free none v ok q = none v.1 ok.1 (cut_blank first front back lacks text one two e free v.0 v.1 ok.0 q).1

@@ -4,7 +4,9 @@ use Rattle.cert_text.specs.BadText.{IsWholeLines}
 use Rattle.cert_law.specs.Unique.{IsSelfEnding}
 use Rattle.cert_law.proofs.Cut.{head, same_front}
 use Rattle.report_reader.specs.Lines.{IsClean}
-use Rattle.report_reader.specs.Blocks.{Begins, IsStop}
+use Rattle.report_reader.specs.Blocks.{Begins, IsStop, IsHalt}
+use Rattle.report_reader.specs.declared.halt.Halt.{Halt}
+use Rattle.report_reader.specs.declared.halt.Halt.TheVariants as halts
 
 -- ---- lists
 
@@ -200,3 +202,10 @@ pair_second {A} {B} {C} first front second back valid text a bytes rest left p o
       let h = p.part c is in
       let whole = p.told.one h.0 a (back h.2.0 ++ x) y h.1 ok (sym (append_assoc (front h.0) (back h.2.0) x) ∙ ap (λ (z : List ℕ). z ++ x) (sym h.2.2) ∙ f) in
       (h.2.0, subst (λ (z : A). second z h.2.0) whole.0 h.2.1, h.2.2 ∙ ap (λ (z : A). front z ++ back h.2.0) whole.0)) s
+
+-- ---- halts
+
+pub halt_map : {A B : Type 0} (first : A → Type 0) (front : A → List ℕ) (some : List ℕ) (valid : B → Type 0) (text : B → List ℕ) (bytes : List ℕ) → ((left : ℕ) → IsStop first front some left → IsStop valid text bytes left)
+    → (h : Halt) → IsHalt first front some h → IsHalt valid text bytes h
+halt_map first front some valid text bytes map (halts.Stop left) s = map left s
+halt_map first front some valid text bytes map halts.NoMemory s = tt

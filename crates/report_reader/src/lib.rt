@@ -1,11 +1,13 @@
 //! Reading reports from their text.
 #![tactic(auto)]
 
+mod carrying;
 mod change;
 mod error;
 mod frame;
 mod halt;
 mod line;
+mod pair;
 mod report;
 mod value;
 
