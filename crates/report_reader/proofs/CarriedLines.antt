@@ -119,8 +119,8 @@ matrix_pair f p word w hp = field_pair (AreRowsOf f (length p.names) (length p.n
     (λ es h. rows_whole f (length p.names) (length p.names) es h) (rows_told f (length p.names) (length p.names))
     (λ es h. let j = zero_jet (length p.names) f.order f.algebra in (made f p es j.0, (made_framed f p es j.0 w hp h j.1, refl), refl))
     (λ c h.
-      let names : length c.names ≡ length p.names = ap (λ (q : Parts). length q.names) h.1 in
-      record { size = h.0.valid.matrix_size ∙ ap (λ (k : ℕ). k * k) names; elements = subst (λ (a : Algebra). IsTrue (list_all (is_element a) c.change.inverse)) h.0.algebra h.0.valid.matrix })
+    let names : length c.names ≡ length p.names = ap (λ (q : Parts). length q.names) h.1 in
+    record { size = h.0.valid.matrix_size ∙ ap (λ (k : ℕ). k * k) names; elements = subst (λ (a : Algebra). IsTrue (list_all (is_element a) c.change.inverse)) h.0.algebra h.0.valid.matrix })
     (λ c h. ap (λ (k : ℕ). rows_text k k c.change.inverse ++ jet_rest word c) (h.0.valid.change_variables ∙ ap (λ (q : Parts). length q.names) h.1))
 
 abbrev pub HasMatrix : Frame → Parts → List Element → Carried → Type 0
@@ -153,10 +153,10 @@ jet_stop f p es word bytes rest last w hp e hm d none =
     pair_second (AreParts f) change_text (HasParts f) (matrix_rest word) (IsFramed f) (change_rest word) p bytes rest (length last) (parts_pair f word w) hp e
     (pair_second (AreRowsOf f n n) (rows_text n n) (HasMatrix f p) (jet_rest word) (HasParts f p) (matrix_rest word) es rest last (length last) (matrix_pair f p word w hp) hm d
     (stop_before (IsJetOf n f.order f.algebra) (λ g. word_line word (jet_text g)) (HasMatrix f p es) (jet_rest word) last (length last)
-      (λ g h. (made f p es g, ((made_framed f p es g w hp hm h, refl), refl), ([], sym (append-nil (word_line word (jet_text g))))))
-      (λ c h. (c.jet, jet_in f p c h.0, ([], sym (append-nil (word_line word (jet_text c.jet))))))
-      (line_stop (IsJetOf n f.order f.algebra) (λ g. word_line word (jet_text g)) last zero.0 zero.1
-        (λ g h. line-word_line word (jet_text g) (shows-clean (jet_text g) (shows-jet n f.order f.algebra g (omega (arith, le)) h))) none)))
+    (λ g h. (made f p es g, ((made_framed f p es g w hp hm h, refl), refl), ([], sym (append-nil (word_line word (jet_text g))))))
+    (λ c h. (c.jet, jet_in f p c h.0, ([], sym (append-nil (word_line word (jet_text c.jet))))))
+    (line_stop (IsJetOf n f.order f.algebra) (λ g. word_line word (jet_text g)) last zero.0 zero.1
+    (λ g h. line-word_line word (jet_text g) (shows-clean (jet_text g) (shows-jet n f.order f.algebra g (omega (arith, le)) h))) none)))
 
 pub stop_at_jet : (f : Frame) (p : Parts) (n : ℕ) (es : List Element) (word : Word) (bytes rest last : List ℕ) → IsFrame f → n ≡ length p.names → AreParts f p → change_text p ++ rest ≡ bytes → AreRowsOf f n n es → rows_text n n es ++ last ≡ rest
     → IsNotAtFront (IsJetOf n f.order f.algebra) (λ g. word_line word (jet_text g)) last → IsStop (IsFramed f) (change_rest word) bytes (length last)
@@ -174,9 +174,10 @@ change_read f p es jet word bytes rest last end a b c =
 pub change_done : (f : Frame) (p : Parts) (n : ℕ) (es : List Element) (jet : JetTerms Element) (c : Carried) (word : Word) (bytes rest last end : List ℕ) → IsFrame f → n ≡ length p.names → c ≡ made f p es jet
     → AreParts f p → change_text p ++ rest ≡ bytes → AreRowsOf f n n es → rows_text n n es ++ last ≡ rest → IsJetOf n f.order f.algebra jet → word_line word (jet_text jet) ++ end ≡ last
     → IsFramed f c × (change_rest word c ++ end ≡ bytes)
-change_done f p n es jet c word bytes rest last end w size same hp a hm b hj d =
-    (subst (IsFramed f) (sym same) (made_framed f p es jet w hp (subst (λ (k : ℕ). AreRowsOf f k k es) size hm) (subst (λ (k : ℕ). IsJetOf k f.order f.algebra jet) size hj)),
-      ap (λ (z : Carried). change_rest word z ++ end) same ∙ change_read f p es jet word bytes rest last end a (ap (λ (k : ℕ). rows_text k k es ++ last) (sym size) ∙ b) d)
+change_done f p n es jet c word bytes rest last end w size same hp a hm b hj d = (
+  subst (IsFramed f) (sym same) (made_framed f p es jet w hp (subst (λ (k : ℕ). AreRowsOf f k k es) size hm) (subst (λ (k : ℕ). IsJetOf k f.order f.algebra jet) size hj)),
+  ap (λ (z : Carried). change_rest word z ++ end) same ∙ change_read f p es jet word bytes rest last end a (ap (λ (k : ℕ). rows_text k k es ++ last) (sym size) ∙ b) d,
+)
 
 -- ---- the lines before
 
@@ -288,8 +289,8 @@ pub stop_at_change : (word : Word) (f : Frame) (bytes three : List ℕ) → Fram
 unfolding rest3
 stop_at_change word f bytes three r none = behind_corank word f bytes three (length three) r
     (let c = some_corank f.order f.algebra f.corank r.order r.algebra r.corank.1 in
-      stop_here (HasCorank f.order f.algebra f.corank) (rest3 word) three c.0 c.1
-      (λ d h. record { first = line (word_text words.Change); tail = change_rest word d; line = line-word words.Change; is = refl; never = none }))
+    stop_here (HasCorank f.order f.algebra f.corank) (rest3 word) three c.0 c.1
+    (λ d h. record { first = line (word_text words.Change); tail = change_rest word d; line = line-word words.Change; is = refl; never = none }))
 
 framed_from : (f : Frame) (c : Carried) → HasCorank f.order f.algebra f.corank c → IsFramed f c
 framed_from f c h = record { valid = h.0.0.0; order = h.0.0.1; algebra = h.0.1; corank = h.1 }
@@ -303,12 +304,13 @@ stop_behind_change word f bytes three four left r e s = behind_corank word f byt
 
 pub carried_read : (word : Word) (f : Frame) (c : Carried) (bytes three four end : List ℕ) → FrameRead f bytes three → line (word_text words.Change) ++ four ≡ three → IsFramed f c → change_rest word c ++ end ≡ four → IsWellFormedCarried c × (carried_text word c ++ end ≡ bytes)
 unfolding rest1 rest2 rest3
-carried_read word f c bytes three four end r e h d =
-    (h.valid,
-      ap (λ (z : List ℕ). z ++ end) (carried_split word c) ∙ append_assoc (word_line words.Order (decimal c.order)) (rest1 word c) end
+carried_read word f c bytes three four end r e h d = (
+  h.valid,
+  ap (λ (z : List ℕ). z ++ end) (carried_split word c) ∙ append_assoc (word_line words.Order (decimal c.order)) (rest1 word c) end
       ∙ ap (λ (z : List ℕ). word_line words.Order (decimal c.order) ++ z) (append_assoc (word_line words.Algebra (algebra_text c.algebra)) (rest2 word c) end
       ∙ ap (λ (z : List ℕ). word_line words.Algebra (algebra_text c.algebra) ++ z) (append_assoc (word_line words.Corank (decimal c.corank)) (rest3 word c) end
       ∙ ap (λ (z : List ℕ). word_line words.Corank (decimal c.corank) ++ z) (append_assoc (line (word_text words.Change)) (change_rest word c) end ∙ ap (λ (z : List ℕ). line (word_text words.Change) ++ z) d ∙ e)
       ∙ ap (λ (k : ℕ). word_line words.Corank (decimal k) ++ three) h.corank ∙ r.corank_line)
       ∙ ap (λ (a : Algebra). word_line words.Algebra (algebra_text a) ++ r.two) h.algebra ∙ r.algebra_line)
-      ∙ ap (λ (k : ℕ). word_line words.Order (decimal k) ++ r.one) h.order ∙ r.order_line)
+      ∙ ap (λ (k : ℕ). word_line words.Order (decimal k) ++ r.one) h.order ∙ r.order_line,
+)

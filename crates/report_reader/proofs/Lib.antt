@@ -7,3 +7,4 @@ pub mod Found
 pub mod RowLines
 pub mod Matrix
 pub mod CarriedLines
+pub mod EvidenceLines

@@ -35,7 +35,7 @@ row_line es = line (spaced es)
 small : (a : Algebra) (n : ℕ) (es : List Element) → AreElements a n es → AllByRecursion IsSmallElement es
 small a n es h = all_from (is_element a) IsSmallElement (element_by a) es h.elements
 
-values_clean : (es : List Element) → AllByRecursion IsSmallElement es → IsClean (flat_map (λ v. 32 ∷ element_text v) es)
+pub values_clean : (es : List Element) → AllByRecursion IsSmallElement es → IsClean (flat_map (λ v. 32 ∷ element_text v) es)
 values_clean [] h = tt
 values_clean (e ∷ es) h = clean-append (32 ∷ element_text e) (flat_map (λ v. 32 ∷ element_text v) es) ((λ q. omega (arith, q)), shows-clean (element_text e) (shows-element e h.0)) (values_clean es h.1)
 
@@ -52,8 +52,8 @@ row_is_line a n es h = line-line (spaced es) (row_clean a n es h)
 pub row_told : (a : Algebra) (n : ℕ) → IsSelfEnding (AreElements a n) row_line
 row_told a n = record {
   one = λ us vs x y ou ov e.
-    let h = spaced_one us vs (10 ∷ x) (10 ∷ y) (ou.count_is ∙ sym ov.count_is) (small a n us ou) (small a n vs ov) (omega arith) (omega arith) (sym (line_text (spaced us) x) ∙ e ∙ line_text (spaced vs) y) in
-    (h.0, (head 10 10 x y h.1).1);
+      let h = spaced_one us vs (10 ∷ x) (10 ∷ y) (ou.count_is ∙ sym ov.count_is) (small a n us ou) (small a n vs ov) (omega arith) (omega arith) (sym (line_text (spaced us) x) ∙ e ∙ line_text (spaced vs) y) in
+      (h.0, (head 10 10 x y h.1).1);
 }
 
 -- ---- zeros
@@ -103,14 +103,15 @@ joined_rows f (suc r) n (row ∷ rows) h =
     let long = first.count_is in
     let whole = length-append row (joined rows) in
     let more = others.0.size in
-    let step : suc r * n ≡ n + r * n = omega arith in
-    (record {
+    let step : suc r * n ≡ n + r * n = omega arith in (
+      record {
         size = omega (arith, whole, long, more, step);
         elements = tests_append (is_element f.algebra) row (joined rows) first.elements others.0.elements;
       },
       ap (λ (z : List Element). row_line z ++ rows_text r n (drop n (row ++ joined rows))) (ap (λ (k : ℕ). take k (row ++ joined rows)) (sym long) ∙ take_front row (joined rows))
-      ∙ ap (λ (z : List Element). row_line row ++ rows_text r n z) (ap (λ (k : ℕ). drop k (row ++ joined rows)) (sym long) ∙ drop_front row (joined rows))
-      ∙ ap (λ (z : List ℕ). row_line row ++ z) others.1)
+          ∙ ap (λ (z : List Element). row_line row ++ rows_text r n z) (ap (λ (k : ℕ). drop k (row ++ joined rows)) (sym long) ∙ drop_front row (joined rows))
+          ∙ ap (λ (z : List ℕ). row_line row ++ z) others.1,
+    )
 
 -- the rows of a matrix
 pub parted_rows : (f : Frame) (r n : ℕ) (es : List Element) → AreRowsOf f r n es → (rows : List (List Element)) × AreMany (AreElements f.algebra n) r rows × (rows_text r n es ≡ flat_map row_line rows)
@@ -126,17 +127,17 @@ parted_rows f (suc r) n es h =
     let many = others.1.0 in
     (take n es ∷ others.0, (omega (arith, many), (record { count_is = length-take-le n es enough; elements = t.0 }, others.1.1)), ap (λ (z : List ℕ). row_line (take n es) ++ z) others.2)
 
-zero_valid : (a : Algebra) → is_element a zero_element ≡ true
+pub zero_valid : (a : Algebra) → is_element a zero_element ≡ true
 unfolding is_element gcds.gcd
 zero_valid Rational = refl
 zero_valid (Quadratic m1 m0) = refl
 zero_valid (Cubic m2 m1 m0) = refl
 
-zeros : (k : ℕ) → List Element
+pub zeros : (k : ℕ) → List Element
 zeros zero = []
 zeros (suc k) = zero_element ∷ zeros k
 
-zeros_valid : (a : Algebra) (k : ℕ) → AreElements a k (zeros k)
+pub zeros_valid : (a : Algebra) (k : ℕ) → AreElements a k (zeros k)
 unfolding zeros
 zeros_valid a zero = record { count_is = refl; elements = refl }
 zeros_valid a (suc k) = let h = zeros_valid a k in let size = h.count_is in record { count_is = omega (arith, size); elements = and_true (is_element a zero_element) (list_all (is_element a) (zeros k)) (zero_valid a) h.elements }

@@ -45,7 +45,7 @@ part_is_line f n w p h = line-line (part_inside p) (part_clean f n w p h)
 
 -- ---- the same part in more variables
 
-drop_all : (p : ℕ → Bool) (n k : ℕ) (xs : List ℕ) → n ≤ k → list_all p (drop n xs) ≡ true → list_all p (drop k xs) ≡ true
+pub drop_all : (p : ℕ → Bool) (n k : ℕ) (xs : List ℕ) → n ≤ k → list_all p (drop n xs) ≡ true → list_all p (drop k xs) ≡ true
 drop_all p zero zero xs le h = h
 drop_all p zero (suc k) [] le h = refl
 drop_all p zero (suc k) (x ∷ xs) le h = drop_all p zero k xs (omega arith) (both (p x) (list_all p xs) h).1
@@ -311,25 +311,27 @@ completed f count passed fw h few =
     let corank = fw.corank in
     let eight : length (passed.names ++ ns) ≡ 8 = omega (arith, names_size, ns_size, long, few) in
     let each : AllByRecursion (IsPartOf 8 f.order f.algebra) (passed.parts ++ gs) = all_append (IsPartOf 8 f.order f.algebra) passed.parts gs h.parts.parts (zero_copies 8 f.order f.algebra k) in
-    let gs_each : AllByRecursion (IsPartOf 8 f.order f.algebra) gs = zero_copies 8 f.order f.algebra k in
-    (record { names = ns; parts = gs }, record {
-      whole = record { names = passed.names ++ ns; parts = passed.parts ++ gs };
-      valid = record {
-        some_name = omega (arith, eight);
-        few_names = omega (arith, eight);
-        corank = omega (arith, eight, corank);
-        parts = record {
-          names = tests_append is_valid_name passed.names ns h.parts.names (valid_copies k);
-          count = omega (arith, names_size, parts_size, ns_size, gs_size, same);
-          parts = subst (λ (n : ℕ). AllByRecursion (IsPartOf n f.order f.algebra) (passed.parts ++ gs)) (sym eight) each;
+    let gs_each : AllByRecursion (IsPartOf 8 f.order f.algebra) gs = zero_copies 8 f.order f.algebra k in (
+      record { names = ns; parts = gs },
+      record {
+        whole = record { names = passed.names ++ ns; parts = passed.parts ++ gs };
+        valid = record {
+          some_name = omega (arith, eight);
+          few_names = omega (arith, eight);
+          corank = omega (arith, eight, corank);
+          parts = record {
+            names = tests_append is_valid_name passed.names ns h.parts.names (valid_copies k);
+            count = omega (arith, names_size, parts_size, ns_size, gs_size, same);
+            parts = subst (λ (n : ℕ). AllByRecursion (IsPartOf n f.order f.algebra) (passed.parts ++ gs)) (sym eight) each;
+          };
         };
-      };
-      names = valid_copies k;
-      count = gs_size ∙ sym ns_size;
-      each = subst (λ (n : ℕ). AllByRecursion (IsPartOf n f.order f.algebra) gs) (sym eight) gs_each;
-      text = ap (λ (z : List ℕ). z ++ line (word_text words.Inverse)) (parts_append passed.names ns passed.parts gs same) ∙ append_assoc (lines_of passed) (parts_text ns gs) (line (word_text words.Inverse));
-      size = names_size;
-    })
+        names = valid_copies k;
+        count = gs_size ∙ sym ns_size;
+        each = subst (λ (n : ℕ). AllByRecursion (IsPartOf n f.order f.algebra) gs) (sym eight) gs_each;
+        text = ap (λ (z : List ℕ). z ++ line (word_text words.Inverse)) (parts_append passed.names ns passed.parts gs same) ∙ append_assoc (lines_of passed) (parts_text ns gs) (line (word_text words.Inverse));
+        size = names_size;
+      },
+    )
 
 -- the first line of what follows does not stand at the front of the rest
 apart_cases : (f : Frame) (n : ℕ) (ns : List Name) (gs : List (JetTerms Element)) (behind : List ℕ) → IsFrame f → n ≤ 8 → list_all is_valid_name ns ≡ true → length gs ≡ length ns → AllByRecursion (IsPartOf n f.order f.algebra) gs
@@ -384,8 +386,8 @@ parts_stop f count passed bytes behind fw h few e none last =
     (λ w s. (s.whole, s.valid, s.text))
     (λ v x y ok q. follows_from f count passed v x y fw h ok q)
     (stop_here (Follows f passed) change_text behind start.0 start.1 (λ w s. follower_apart f count passed w behind fw h s none
-      (λ z more q. last s.whole more s.valid (let size = s.size in let long = h.long in omega (arith, size, long, z))
-      (ap (λ (b : List ℕ). b ++ more) (s.text ∙ ap (λ (b : List ℕ). lines_of passed ++ b) (empty_text w.names w.parts z)) ∙ append_assoc (lines_of passed) (line (word_text words.Inverse)) more ∙ ap (λ (b : List ℕ). lines_of passed ++ b) q ∙ e))))
+    (λ z more q. last s.whole more s.valid (let size = s.size in let long = h.long in omega (arith, size, long, z))
+    (ap (λ (b : List ℕ). b ++ more) (s.text ∙ ap (λ (b : List ℕ). lines_of passed ++ b) (empty_text w.names w.parts z)) ∙ append_assoc (lines_of passed) (line (word_text words.Inverse)) more ∙ ap (λ (b : List ℕ). lines_of passed ++ b) q ∙ e))))
 
 -- ---- the cases in which no change has just the parts that stand at the front
 
@@ -445,11 +447,11 @@ pub change_told : (f : Frame) → IsFrame f → IsSelfEnding (AreParts f) change
 unfolding change_text
 change_told f w = record {
   one = λ p q x y op oq e.
-    let h = part_lines p.names q.names p.parts q.parts x y (polynomials f (length p.names) p w op.parts) (polynomials f (length q.names) q w oq.parts)
-    (sym (append_assoc (lines_of p) (line (word_text words.Inverse)) x) ∙ e ∙ append_assoc (lines_of q) (line (word_text words.Inverse)) y) in
-    let as_many = subst (λ (ns : List Name). AllByRecursion (IsReadableJet (length ns) f.order) q.parts) (sym h.0) (all_to (IsPartOf (length q.names) f.order f.algebra) (IsReadableJet (length q.names) f.order) (readable_part f (length q.names) w) q.parts oq.parts.parts) in
-    let parts = jets_same (length p.names) f.order p.parts q.parts (all_to (IsPartOf (length p.names) f.order f.algebra) (IsReadableJet (length p.names) f.order) (readable_part f (length p.names) w) p.parts op.parts.parts) as_many h.1 in
-    (parts_is p q h.0 parts, h.2);
+      let h = part_lines p.names q.names p.parts q.parts x y (polynomials f (length p.names) p w op.parts) (polynomials f (length q.names) q w oq.parts)
+      (sym (append_assoc (lines_of p) (line (word_text words.Inverse)) x) ∙ e ∙ append_assoc (lines_of q) (line (word_text words.Inverse)) y) in
+      let as_many = subst (λ (ns : List Name). AllByRecursion (IsReadableJet (length ns) f.order) q.parts) (sym h.0) (all_to (IsPartOf (length q.names) f.order f.algebra) (IsReadableJet (length q.names) f.order) (readable_part f (length q.names) w) q.parts oq.parts.parts) in
+      let parts = jets_same (length p.names) f.order p.parts q.parts (all_to (IsPartOf (length p.names) f.order f.algebra) (IsReadableJet (length p.names) f.order) (readable_part f (length p.names) w) p.parts op.parts.parts) as_many h.1 in
+      (parts_is p q h.0 parts, h.2);
 }
 
 -- parts x = 0

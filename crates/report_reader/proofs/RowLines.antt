@@ -12,7 +12,7 @@ use Rattle.report_reader.specs.Lines.{IsWithin, IsClean}
 use Rattle.report_reader.specs.Blocks.{IsStop, IsNotAtFront}
 use Rattle.report_reader.specs.Rows.{AreMany, AreAtMost, counted_text}
 use Rattle.report_reader.proofs.Fronts.{line-word_line, within_clean}
-use Rattle.report_reader.proofs.Stops.{IsLine, IsApart, IsPair, stop_here, stop_behind, whole-line}
+use Rattle.report_reader.proofs.Stops.{IsLine, IsApart, IsPair, stop_here, stop_behind, pair_first, pair_second, whole-line}
 
 -- a line that is not there stops a block of one line
 pub line_stop : {A : Type 0} (valid : A → Type 0) (text : A → List ℕ) (bytes : List ℕ) (v : A) → valid v → ((w : A) → valid w → IsLine (text w)) → IsNotAtFront valid text bytes → IsStop valid text bytes (length bytes)
@@ -89,9 +89,10 @@ pub many_more : {A : Type 0} (valid : A → Type 0) (text : A → List ℕ) (k :
 many_more {A} valid text k xs ys x rest after bytes is e ok a same =
     let size = length-append xs (x ∷ []) in
     let old = is.0 in
-    let more : AreMany valid (k + 1) (xs ++ x ∷ []) = (omega (arith, size, old), all_push valid xs x is.1 ok) in
-    (subst (AreMany valid (k + 1)) (sym same) more,
-      ap (λ (z : List A). flat_map text z ++ after) same ∙ ap (λ (z : List ℕ). z ++ after) (flat_push text xs x) ∙ append_assoc (flat_map text xs) (text x) after ∙ ap (λ (z : List ℕ). flat_map text xs ++ z) a ∙ e)
+    let more : AreMany valid (k + 1) (xs ++ x ∷ []) = (omega (arith, size, old), all_push valid xs x is.1 ok) in (
+      subst (AreMany valid (k + 1)) (sym same) more,
+      ap (λ (z : List A). flat_map text z ++ after) same ∙ ap (λ (z : List ℕ). z ++ after) (flat_push text xs x) ∙ append_assoc (flat_map text xs) (text x) after ∙ ap (λ (z : List ℕ). flat_map text xs ++ z) a ∙ e,
+    )
 
 -- the count of rows, and the rows
 pub counted_pair : {A : Type 0} (w : Word) (most : ℕ) (valid : A → Type 0) (text : A → List ℕ) → most < 2 ^ 64 → ((k : ℕ) → k ≤ most → (xs : List A) × AreMany valid k xs)
@@ -103,3 +104,22 @@ counted_pair w most valid text lt some = record {
   join = λ k xs h is. let size = is.0 in let le = h.1 in (xs, (omega (arith, size, le), is.1), ap (λ (z : ℕ). word_line w (decimal z) ++ flat_map text xs) size);
   part = λ xs is. (length xs, (omega arith, is.0), (xs, (refl, is.1), refl));
 }
+
+pub counted_stop : {A : Type 0} (w : Word) (most : ℕ) (valid : A → Type 0) (text : A → List ℕ) (bytes : List ℕ) → most < 2 ^ 64 → ((k : ℕ) → k ≤ most → (xs : List A) × AreMany valid k xs)
+    → IsNotAtFront (IsWithin 0 most) (λ k. word_line w (decimal k)) bytes → IsStop (AreAtMost valid most) (counted_text w text) bytes (length bytes)
+counted_stop w most valid text bytes lt some none = pair_first (IsWithin 0 most) (λ k. word_line w (decimal k)) (AreMany valid) (flat_map text) (AreAtMost valid most) (counted_text w text) bytes (length bytes) (counted_pair w most valid text lt some)
+    (line_stop (IsWithin 0 most) (λ k. word_line w (decimal k)) bytes 0 (omega arith, omega arith) (number_is_line w 0 most lt) none)
+
+pub behind_count : {A : Type 0} (w : Word) (most : ℕ) (valid : A → Type 0) (text : A → List ℕ) (k : ℕ) (bytes rest : List ℕ) (left : ℕ) → most < 2 ^ 64 → ((k : ℕ) → k ≤ most → (xs : List A) × AreMany valid k xs)
+    → IsWithin 0 most k → word_line w (decimal k) ++ rest ≡ bytes → IsStop (AreMany valid k) (flat_map text) rest left → IsStop (AreAtMost valid most) (counted_text w text) bytes left
+behind_count w most valid text k bytes rest left lt some h e s = pair_second (IsWithin 0 most) (λ k. word_line w (decimal k)) (AreMany valid) (flat_map text) (AreAtMost valid most) (counted_text w text) k bytes rest left (counted_pair w most valid text lt some) h e s
+
+pub counted_read : {A : Type 0} (w : Word) (most : ℕ) (valid : A → Type 0) (text : A → List ℕ) (k : ℕ) (xs : List A) (bytes rest end : List ℕ) → IsWithin 0 most k → word_line w (decimal k) ++ rest ≡ bytes → AreMany valid k xs → flat_map text xs ++ end ≡ rest
+    → AreAtMost valid most xs × (counted_text w text xs ++ end ≡ bytes)
+counted_read w most valid text k xs bytes rest end h e is d =
+    let size = is.0 in
+    let le = h.1 in
+    ((omega (arith, size, le), is.1), append_assoc (word_line w (decimal (length xs))) (flat_map text xs) end ∙ ap (λ (z : List ℕ). word_line w (decimal (length xs)) ++ z) d ∙ ap (λ (z : ℕ). word_line w (decimal z) ++ rest) size ∙ e)
+
+pub many_none : {A : Type 0} (valid : A → Type 0) (text : A → List ℕ) (xs : List A) (bytes : List ℕ) → xs ≡ [] → AreMany valid 0 xs × (flat_map text xs ++ bytes ≡ bytes)
+many_none {A} valid text xs bytes e = let start : AreMany valid 0 [] = (refl, tt) in (subst (AreMany valid 0) (sym e) start, ap (λ (z : List A). flat_map text z ++ bytes) e)

@@ -128,23 +128,23 @@ stop_behind valid text later others bytes lines rest left whole e into out s =
       lines = whole-append lines s.seen whole s.lines;
       begins = (a.0, a.1, (b.2.0, a.2 ∙ ap (λ (z : List ℕ). lines ++ z) b.2.1 ∙ sym (append_assoc lines s.seen b.2.0)));
       none = λ w more ok f.
-        let r = out w more rest ok (f ∙ sym e) in
-        s.none r.0 more r.1 (same_front lines (others r.0 ++ more) rest (sym (append_assoc lines (others r.0) more) ∙ ap (λ (z : List ℕ). z ++ more) (sym r.2) ∙ f ∙ sym e));
+          let r = out w more rest ok (f ∙ sym e) in
+          s.none r.0 more r.1 (same_front lines (others r.0 ++ more) rest (sym (append_assoc lines (others r.0) more) ∙ ap (λ (z : List ℕ). z ++ more) (sym r.2) ∙ f ∙ sym e));
       longest = λ w front more next ok is p q lt.
-        let size = length-append lines s.seen in
-        let g = shorter_front lines rest front more (e ∙ p) (omega (arith, size, lt)) in
-        let again : text w ++ [] ≡ lines ++ (g.more ++ (next ++ [])) = ap (λ (z : List ℕ). z ++ []) q ∙ ap (λ (z : List ℕ). (z ++ next) ++ []) g.long ∙ append_assoc (lines ++ g.more) next [] ∙ append_assoc lines g.more (next ++ []) in
-        let r = out w [] (g.more ++ (next ++ [])) ok again in
-        let go : others r.0 ≡ g.more ++ next = same_front lines (others r.0) (g.more ++ next) (sym r.2 ∙ q ∙ ap (λ (z : List ℕ). z ++ next) g.long ∙ append_assoc lines g.more next) in
-        let sizes = length-append lines g.more in
-        let front_size = ap length g.long in
-        s.longest r.0 g.more more next r.1 (whole-rest lines g.more (subst IsWholeLines g.long is)) g.rest go (omega (arith, size, lt, sizes, front_size));
+          let size = length-append lines s.seen in
+          let g = shorter_front lines rest front more (e ∙ p) (omega (arith, size, lt)) in
+          let again : text w ++ [] ≡ lines ++ (g.more ++ (next ++ [])) = ap (λ (z : List ℕ). z ++ []) q ∙ ap (λ (z : List ℕ). (z ++ next) ++ []) g.long ∙ append_assoc (lines ++ g.more) next [] ∙ append_assoc lines g.more (next ++ []) in
+          let r = out w [] (g.more ++ (next ++ [])) ok again in
+          let go : others r.0 ≡ g.more ++ next = same_front lines (others r.0) (g.more ++ next) (sym r.2 ∙ q ∙ ap (λ (z : List ℕ). z ++ next) g.long ∙ append_assoc lines g.more next) in
+          let sizes = length-append lines g.more in
+          let front_size = ap length g.long in
+          s.longest r.0 g.more more next r.1 (whole-rest lines g.more (subst IsWholeLines g.long is)) g.rest go (omega (arith, size, lt, sizes, front_size));
     }
 
 either_way : (m n : ℕ) → (m ≤ n) ⊎ (n ≤ m)
 either_way zero n = inl (omega arith)
 either_way (suc m) zero = inr (omega arith)
-either_way (suc m) (suc n) = elim (either_way m n) [ | inl le ↦ inl (omega (arith, le)) | inr le ↦ inr (omega (arith, le)) ]
+either_way (suc m) (suc n) = elim (either_way m n) [ inl le ↦ inl (omega (arith, le)) | inr le ↦ inr (omega (arith, le)) ]
 
 -- in the first of two blocks: each first block goes on, and each whole has a first block
 pub stop_before : {A B : Type 0} (valid : A → Type 0) (text : A → List ℕ) (whole : B → Type 0) (texts : B → List ℕ) (bytes : List ℕ) (left : ℕ)
@@ -162,12 +162,12 @@ stop_before valid text whole texts bytes left onto from s =
       lines = s.lines;
       begins = (w.0, w.1, (b.2.0 ++ w.2.0, w.2.1 ∙ ap (λ (z : List ℕ). z ++ w.2.0) b.2.1 ∙ append_assoc s.seen b.2.0 w.2.0));
       none = λ v more ok e.
-        let a = from v ok in
-        s.none a.0 (a.2.0 ++ more) a.1 (sym (append_assoc (text a.0) a.2.0 more) ∙ ap (λ (z : List ℕ). z ++ more) (sym a.2.1) ∙ e);
+          let a = from v ok in
+          s.none a.0 (a.2.0 ++ more) a.1 (sym (append_assoc (text a.0) a.2.0 more) ∙ ap (λ (z : List ℕ). z ++ more) (sym a.2.1) ∙ e);
       longest = λ v front more next ok is p q lt.
-        let a = from v ok in
-        in_first (text a.0) a.2.0 front next (λ g. s.longest a.0 front more g.more a.1 is p g.long lt)
-        (λ g. s.none a.0 (g.more ++ more) a.1 (sym (append_assoc (text a.0) g.more more) ∙ ap (λ (z : List ℕ). z ++ more) (sym g.long) ∙ sym p)) (sym a.2.1 ∙ q);
+          let a = from v ok in
+          in_first (text a.0) a.2.0 front next (λ g. s.longest a.0 front more g.more a.1 is p g.long lt)
+          (λ g. s.none a.0 (g.more ++ more) a.1 (sym (append_assoc (text a.0) g.more more) ∙ ap (λ (z : List ℕ). z ++ more) (sym g.long) ∙ sym p)) (sym a.2.1 ∙ q);
     }
   where
     in_first : (t u front next : List ℕ) → (Goes front next t u → ⊥) → (Goes t u front next → ⊥) → t ++ u ≡ front ++ next → ⊥
@@ -199,9 +199,9 @@ pair_second {A} {B} {C} first front second back valid text a bytes rest left p o
     stop_behind valid text (second a) back bytes (front a) rest left (p.lines a ok) e
     (λ b is. p.join a b ok is)
     (λ c x y is f.
-      let h = p.part c is in
-      let whole = p.told.one h.0 a (back h.2.0 ++ x) y h.1 ok (sym (append_assoc (front h.0) (back h.2.0) x) ∙ ap (λ (z : List ℕ). z ++ x) (sym h.2.2) ∙ f) in
-      (h.2.0, subst (λ (z : A). second z h.2.0) whole.0 h.2.1, h.2.2 ∙ ap (λ (z : A). front z ++ back h.2.0) whole.0)) s
+    let h = p.part c is in
+    let whole = p.told.one h.0 a (back h.2.0 ++ x) y h.1 ok (sym (append_assoc (front h.0) (back h.2.0) x) ∙ ap (λ (z : List ℕ). z ++ x) (sym h.2.2) ∙ f) in
+    (h.2.0, subst (λ (z : A). second z h.2.0) whole.0 h.2.1, h.2.2 ∙ ap (λ (z : A). front z ++ back h.2.0) whole.0)) s
 
 -- ---- halts
 

@@ -214,17 +214,16 @@ pub(crate) fn read_change(
 }
 
 // The germ in new variables, of its blocks.
-fn carried(
-    frame: Frame,
-    parts: Parts,
-    inverse: Items<Ext<Frac>>,
-    jet: Jet<Ext<Frac>>,
-) -> Carried
+fn carried(frame: Frame, parts: Parts, inverse: Items<Ext<Frac>>, jet: Jet<Ext<Frac>>) -> Carried
     requires few { length parts.names ≤ 8 }
     ensures { result ≡ record {
-        names = parts.names; algebra = frame.algebra; order = frame.order; corank = frame.corank;
-        change = record { n = length parts.names; order = frame.order; parts = parts.parts; inverse = inverse };
-        jet = jet } }
+      names = parts.names;
+      algebra = frame.algebra;
+      order = frame.order;
+      corank = frame.corank;
+      change = record { n = length parts.names; order = frame.order; parts = parts.parts; inverse = inverse };
+      jet = jet;
+    } }
 {
     let Parts { names, parts } = parts;
     let n = names.len() as u8;

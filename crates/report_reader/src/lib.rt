@@ -9,6 +9,7 @@ mod halt;
 mod line;
 mod pair;
 mod report;
+mod rows;
 mod value;
 
 pub use error::ReadError;

@@ -51,7 +51,13 @@ pub(crate) fn take_number(word: Word, least: u64, most: u64, bytes: &[u8]) -> Op
         None => None,
         Some((text, rest)) => match read_u64(text) {
             None => None,
-            Some(n) => { if least <= n && n <= most { Some((n, rest)) } else { None } }
+            Some(n) => {
+                if least <= n && n <= most {
+                    Some((n, rest))
+                } else {
+                    None
+                }
+            }
         },
     }
 }

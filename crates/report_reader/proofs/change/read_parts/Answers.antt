@@ -15,12 +15,12 @@ returns-then-count-eq0-clause-halt c =
     let p = c.in-Ok.ensures in
     parts_stop c.args.frame c.in-Ok.passed.0 p.passed c.args.bytes.now c.in-Ok.passed.1.now c.requires.frame p.parts p.few p.text p.next
     (λ v more ok size e.
-      let a = ok.some_name in
-      let b = ok.corank in
-      elim c.then-count-eq0.branch [
-        | then-count-eq0-via-then-count-eq0 w ↦ (let t = w.if-count-eq0.true in omega (arith, a, size, t))
-        | then-count-eq0-via-else-count-eq0+then-count-frame w ↦ (let t = w.if-count-frame.true in omega (arith, b, size, t))
-      ])
+    let a = ok.some_name in
+    let b = ok.corank in
+    elim c.then-count-eq0.branch [
+      | then-count-eq0-via-then-count-eq0 w ↦ (let t = w.if-count-eq0.true in omega (arith, a, size, t))
+      | then-count-eq0-via-else-count-eq0+then-count-frame w ↦ (let t = w.if-count-frame.true in omega (arith, b, size, t))
+    ])
 
 pub returns-in-Ok-None-clause-halt : goal.returns-in-Ok-None-clause-halt
 returns-in-Ok-None-clause-halt c =
@@ -35,6 +35,7 @@ returns-in-Ok-Some-clause-ok c =
     let count = c.in-Ok.passed.0 in
     let few = p.few in
     let some = c.if-count-eq0.false in
-    let corank = c.if-count-frame.false in
-    (parts_are c.args.frame count c.in-Ok-Some.parts read.0 (omega (arith, some)) few corank,
-      parts_read c.args.frame count p.passed c.in-Ok-Some.parts c.args.bytes.now c.in-Ok.passed.1.now c.in-Some.rest.now c.in-Ok-Some.field-0-0-1.now c.requires.frame p.parts p.text read.0 read.1 c.in-Some.ensures.some)
+    let corank = c.if-count-frame.false in (
+      parts_are c.args.frame count c.in-Ok-Some.parts read.0 (omega (arith, some)) few corank,
+      parts_read c.args.frame count p.passed c.in-Ok-Some.parts c.args.bytes.now c.in-Ok.passed.1.now c.in-Some.rest.now c.in-Ok-Some.field-0-0-1.now c.requires.frame p.parts p.text read.0 read.1 c.in-Some.ensures.some,
+    )

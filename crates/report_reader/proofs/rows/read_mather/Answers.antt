@@ -1,0 +1,26 @@
+use Rattle.std.proofs.Common.{◌≡◌, ℕ, ◌≤◌, List, [], ◌∷◌, ◌++◌, refl, arith, lit<}
+use Rattle.std.specs.List.{flat_map}
+use Rattle.cert_text.specs.declared.word.Word.TheVariants as words
+use Rattle.cert_text.specs.Text.{unit_text, mather_text, table_text}
+use Rattle.row_reader.specs.Values.{IsUnitPair, unit_inside}
+use Rattle.row_reader.specs.Rows.{IsRowOf, mather_inside, IsTableRowOf, table_inside}
+use Rattle.report_reader.specs.Rows.{AreMany, AreAtMost, counted_text, most_rows}
+use Rattle.report_reader.proofs.Fronts.{no_line_at, line_value_at, line_front}
+use Rattle.report_reader.proofs.Found.{some_is, ok_map, err_map}
+use Rattle.report_reader.proofs.RowLines.{rows_stop, many_more, many_copies, counted_stop, behind_count, counted_read, many_none}
+use Rattle.report_reader.proofs.EvidenceLines.{unit_clean, unit_told, unit_is_line, some_unit, some_unit_valid, mather_clean, mather_told, mather_is_line, some_row, some_rows, residual_there, most_small, table_clean, table_told, table_is_line, some_table_row}
+use Rattle.report_reader.proofs.rows.read_mather.Goals as goal
+
+pub returns-in-None-clause-halt : goal.returns-in-None-clause-halt
+returns-in-None-clause-halt c = counted_stop words.Mather (most_rows c.args.frame.corank) (IsRowOf c.args.frame.algebra c.args.frame.corank c.args.frame.order) mather_text c.args.bytes.now (most_small c.args.frame.corank) (some_rows c.args.frame) (c.in-None.ensures.none refl)
+
+pub returns-in-Some-clause-ok : goal.returns-in-Some-clause-ok
+returns-in-Some-clause-ok c =
+    let n = c.in-Some.ensures.some in
+    ok_map c.read_mather_rows.result _ _ (λ p h. counted_read words.Mather (most_rows c.args.frame.corank) (IsRowOf c.args.frame.algebra c.args.frame.corank c.args.frame.order) mather_text c.in-Some.count p.0 c.args.bytes.now c.in-Some.rest.now p.1.now n.0 n.1 h.0 h.1) c.read_mather_rows.ensures.ok
+
+pub returns-in-Some-clause-halt : goal.returns-in-Some-clause-halt
+returns-in-Some-clause-halt c =
+    let n = c.in-Some.ensures.some in
+    err_map c.read_mather_rows.result (AreMany (IsRowOf c.args.frame.algebra c.args.frame.corank c.args.frame.order) c.in-Some.count) (flat_map mather_text) c.in-Some.rest.now (AreAtMost (IsRowOf c.args.frame.algebra c.args.frame.corank c.args.frame.order) (most_rows c.args.frame.corank)) (counted_text words.Mather mather_text) c.args.bytes.now
+    (λ left s. behind_count words.Mather (most_rows c.args.frame.corank) (IsRowOf c.args.frame.algebra c.args.frame.corank c.args.frame.order) mather_text c.in-Some.count c.args.bytes.now c.in-Some.rest.now left (most_small c.args.frame.corank) (some_rows c.args.frame) n.0 n.1 s) c.read_mather_rows.ensures.halt
