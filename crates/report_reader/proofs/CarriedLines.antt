@@ -26,7 +26,7 @@ use Rattle.report_reader.specs.Blocks.{IsStop, IsNotAtFront}
 use Rattle.report_reader.specs.States.{IsFrame, IsFramed, AreParts, AreRowsOf, change_text, change_rest, parts_of, lines_of}
 use Rattle.report_reader.proofs.Fronts.{line-word, line-word_line}
 use Rattle.report_reader.proofs.Shown.{shows-clean, shows-jet, shows-algebra}
-use Rattle.report_reader.proofs.Stops.{IsLine, IsPair, stop_here, stop_behind, stop_before, pair_first, pair_second, whole-line}
+use Rattle.report_reader.proofs.Stops.{IsLine, IsPair, stop_here, stop_behind, stop_before, pair_first, pair_second, whole-append, whole-line}
 use Rattle.report_reader.proofs.RowLines.{field_pair, line_stop, numbers_told, number_is_line}
 use Rattle.report_reader.proofs.PartLines.{change_whole, change_told, some_parts}
 use Rattle.report_reader.proofs.Matrix.{rows_whole, rows_told, some_matrix}
@@ -314,3 +314,25 @@ carried_read word f c bytes three four end r e h d = (
       ∙ ap (λ (a : Algebra). word_line words.Algebra (algebra_text a) ++ r.two) h.algebra ∙ r.algebra_line)
       ∙ ap (λ (k : ℕ). word_line words.Order (decimal k) ++ r.one) h.order ∙ r.order_line,
 )
+
+pub carried_whole : (word : Word) (c : Carried) → IsWellFormedCarried c → IsWholeLines (carried_text word c)
+unfolding rest1 rest2 rest3 change_rest
+carried_whole word c h =
+    let f : Frame = record { order = c.order; algebra = c.algebra; corank = c.corank } in
+    let le = h.corank in
+    let few = h.few_names in
+    let w : IsFrame f = record { order_at_least = h.order_at_least; order_at_most = h.order_at_most; algebra = h.algebra; corank = omega (arith, le, few) } in
+    let is : IsFramed f c = record { valid = h; order = refl; algebra = refl; corank = refl } in
+    let parts = parts_in f c is in
+    let low = h.order_at_most in
+    let jet = whole-line (word_line word (jet_text c.jet)) (line-word_line word (jet_text c.jet) (shows-clean (jet_text c.jet) (shows-jet (length c.names) c.order c.algebra c.jet (omega (arith, low)) h.jet))) in
+    let size : length c.change.inverse ≡ c.change.n * c.change.n = h.matrix_size ∙ sym (ap (λ (k : ℕ). k * k) h.change_variables) in
+    let matrix = whole-append (rows_text c.change.n c.change.n c.change.inverse) (word_line word (jet_text c.jet)) (rows_whole f c.change.n c.change.n c.change.inverse (record { size = size; elements = h.matrix })) jet in
+    let change = whole-append (change_text (parts_of c)) (rows_text c.change.n c.change.n c.change.inverse ++ word_line word (jet_text c.jet)) (change_whole f (parts_of c) w parts) matrix in
+    let three = whole-append (line (word_text words.Change)) (change_rest word c) (whole-line (line (word_text words.Change)) (line-word words.Change)) change in
+    let two = whole-append (word_line words.Corank (decimal c.corank)) (rest3 word c) (whole-line (word_line words.Corank (decimal c.corank)) (number_is_line words.Corank 0 8 (lit< tt) c.corank (omega arith, omega (arith, le, few)))) three in
+    let one = whole-append (word_line words.Algebra (algebra_text c.algebra)) (rest2 word c) (whole-line (word_line words.Algebra (algebra_text c.algebra)) (algebra_is_line c.algebra h.algebra)) two in
+    subst IsWholeLines (sym (carried_split word c)) (whole-append (word_line words.Order (decimal c.order)) (rest1 word c) (whole-line (word_line words.Order (decimal c.order)) (number_is_line words.Order 2 16 (lit< tt) c.order (h.order_at_least, h.order_at_most))) one)
+
+pub some_carried : (c : Carried) × IsWellFormedCarried c
+some_carried = let c = some_corank 2 Rational 0 (omega arith, omega arith) rational_valid (omega arith) in (c.0, c.1.0.0.0)

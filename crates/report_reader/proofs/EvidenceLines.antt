@@ -41,7 +41,7 @@ use Rattle.report_reader.proofs.Matrix.{zeros, zeros_valid, zero_element, zero_v
 told_by : {A : Type 0} (P Q : A → Type 0) (text : A → List ℕ) → ((a : A) → P a → Q a) → IsSelfEnding Q text → IsSelfEnding P text
 told_by P Q text map t = record { one = λ a b x y pa pb e. t.one a b x y (map a pa) (map b pb) e }
 
-and_true : (a b : Bool) → a ≡ true → b ≡ true → (a && b) ≡ true
+pub and_true : (a b : Bool) → a ≡ true → b ≡ true → (a && b) ≡ true
 and_true true b p q = q
 and_true false b p q = absurd cc
 
@@ -133,6 +133,10 @@ some_rows f (suc k) le = let row = some_row f (has_residual f.corank k le) in ma
 pub residual_there : (corank i count : ℕ) → i < count → count ≤ most_rows corank → 1 ≤ corank
 residual_there zero i count lt le = absurd (omega (arith, lt, le))
 residual_there (suc c) i count lt le = omega arith
+
+pub most_at_most : (corank k : ℕ) → k ≤ most_rows corank → k ≤ 1140
+most_at_most zero k le = omega (arith, le)
+most_at_most (suc c) k le = le
 
 pub most_small : (corank : ℕ) → most_rows corank < 2 ^ 64
 most_small zero = lit< tt

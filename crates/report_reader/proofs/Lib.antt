@@ -8,3 +8,4 @@ pub mod RowLines
 pub mod Matrix
 pub mod CarriedLines
 pub mod EvidenceLines
+pub mod NamedLines

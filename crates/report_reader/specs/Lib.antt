@@ -2,3 +2,4 @@ pub mod Lines
 pub mod Blocks
 pub mod States
 pub mod Rows
+pub mod Evidence

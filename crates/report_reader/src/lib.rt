@@ -7,6 +7,7 @@ mod error;
 mod frame;
 mod halt;
 mod line;
+mod named;
 mod pair;
 mod report;
 mod rows;
