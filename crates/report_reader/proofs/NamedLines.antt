@@ -35,7 +35,7 @@ use Rattle.report_reader.specs.Blocks.{IsStop, IsNotAtFront}
 use Rattle.report_reader.specs.Rows.{AreMany, AreAtMost, counted_text, most_rows}
 use Rattle.report_reader.specs.States.{IsFrame}
 use Rattle.report_reader.specs.Evidence.{frame_of, IsBasis, basis_line, IsFront, IsNamedAs, IsOfFamily, table_rest, basis_rest, mather_rest, milnor_rest, modulus_rest, units_rest, named_rest, unresolved_rest}
-use Rattle.report_reader.proofs.Fronts.{clean-append, line-line, line-word_line}
+use Rattle.report_reader.proofs.Fronts.{clean-append, line-line, line-word_line, line_front}
 use Rattle.report_reader.proofs.Shown.{shows-clean, shows-monomial}
 use Rattle.report_reader.proofs.Words.{modulus_clean}
 use Rattle.report_reader.proofs.Stops.{IsLine, IsPair, stop_before, pair_first, pair_second, whole-append, whole-line}
@@ -125,10 +125,10 @@ carried_frame c h = let le = h.corank in let few = h.few_names in record { order
 abbrev made_named : Front → List (MatherRow Element) → List Exp → List (TableRow Element) → named_type.Named
 made_named f rows basis table = record { family = f.family; carried = f.carried; units = f.units; modulus = f.modulus; milnor = f.milnor; mather = rows; quotient = record { basis = basis; table = table } }
 
-abbrev RowsOf : Front → List (MatherRow Element) → Type 0
+abbrev pub RowsOf : Front → List (MatherRow Element) → Type 0
 RowsOf f rows = AreAtMost (IsRowOf f.carried.algebra f.carried.corank f.carried.order) (most_rows f.carried.corank) rows
 
-abbrev TableOf : Front → ℕ → List (TableRow Element) → Type 0
+abbrev pub TableOf : Front → ℕ → List (TableRow Element) → Type 0
 TableOf f size table = AreAtMost (IsTableRowOf f.carried.algebra f.carried.corank f.carried.order size) 1140 table
 
 pub named_made : (f : Front) (rows : List (MatherRow Element)) (basis : List Exp) (table : List (TableRow Element)) → IsFront f → RowsOf f rows → IsBasis f.carried.corank basis → TableOf f (length basis) table → IsNamedAs f (made_named f rows basis table)
@@ -214,3 +214,172 @@ evidence_read f rows basis size table r bytes rest last end w same is h e b d t 
     (subst (IsNamedAs f) (sym is) (named_made f rows basis table w h b (subst (λ (k : ℕ). TableOf f k table) same t)),
       ap (λ (z : named_type.Named). mather_rest z ++ end) is ∙ append_assoc (counted_text words.Mather mather_text rows) (basis_line basis ++ counted_text words.Table table_text table) end
       ∙ ap (λ (z : List ℕ). counted_text words.Mather mather_text rows ++ z) (append_assoc (basis_line basis) (counted_text words.Table table_text table) end ∙ ap (λ (z : List ℕ). basis_line basis ++ z) q ∙ d) ∙ e)
+
+-- no line of a basis of this size
+pub basis_size : (corank : ℕ) (basis : List Exp) (text rest bytes : List ℕ) → AreResidual corank basis → basis_inside basis ≡ text → bytes ≡ text ++ 10 ∷ rest → (IsWithin 1 1140 (length basis) → ⊥) → IsNotAtFront (IsBasis corank) basis_line bytes
+unfolding word_text
+basis_size corank basis text rest bytes res same e not_in v more h q =
+    let one = reporting.basis_rest v basis more rest (all_residual corank v h.residual) (all_residual corank basis res) (q ∙ sym (line_front (basis_inside basis) text rest bytes same e)) in
+    not_in (subst (λ (z : List Exp). IsWithin 1 1140 (length z)) one.0 (h.some, h.few))
+
+-- ---- the lines from the germ in new variables to the Milnor number
+
+front_of : Family → Carried → List UnitPair → ModulusLine → ℕ → Front
+front_of family c units m k = record { family = family; carried = c; units = units; modulus = m; milnor = k }
+
+is_front_of : (family : Family) (c : Carried) (units : List UnitPair) (m : ModulusLine) (k : ℕ) → IsFamily family → IsWellFormedCarried c → AreAtMost (IsUnitPair c.algebra) 1140 units → IsTrue (is_valid_modulus c.algebra m) → k < 2 ^ 32 → IsFront (front_of family c units m k)
+unfolding front_of
+is_front_of family c units m k a b d e g = record { family = a; carried = b; units = d; modulus = e; milnor = g }
+
+some_named : (family : Family) (c : Carried) (units : List UnitPair) (m : ModulusLine) (k : ℕ) → IsFamily family → IsWellFormedCarried c → AreAtMost (IsUnitPair c.algebra) 1140 units → IsTrue (is_valid_modulus c.algebra m) → k < 2 ^ 32 → (r : named_type.Named) × IsNamedAs (front_of family c units m k) r
+unfolding front_of
+some_named family c units m k a b d e g =
+    let f = front_of family c units m k in
+    (made_named f [] (one_monomial ∷ []) [], named_made f [] (one_monomial ∷ []) [] (is_front_of family c units m k a b d e g) (omega arith, tt) (some_basis c.corank) (omega arith, tt))
+
+abbrev HasCarried : Family → Carried → named_type.Named → Type 0
+HasCarried family c r = IsOfFamily family r × (r.carried ≡ c)
+
+abbrev HasUnits : Family → Carried → List UnitPair → named_type.Named → Type 0
+HasUnits family c us r = HasCarried family c r × (r.units ≡ us)
+
+abbrev HasModulus : Family → Carried → List UnitPair → ModulusLine → named_type.Named → Type 0
+HasModulus family c us m r = HasUnits family c us r × (r.modulus ≡ m)
+
+abbrev HasMilnor : Family → Carried → List UnitPair → ModulusLine → ℕ → named_type.Named → Type 0
+HasMilnor family c us m k r = HasModulus family c us m r × (r.milnor ≡ k)
+
+carried_pair : (family : Family) → IsFamily family → IsPair IsWellFormedCarried (carried_text words.Form) (λ c r. IsOfFamily family r × (r.carried ≡ c)) units_rest (IsOfFamily family) named_rest
+unfolding named_rest front_of
+carried_pair family w = field_pair IsWellFormedCarried (carried_text words.Form) (IsOfFamily family) named_rest (λ r. r.carried) units_rest
+    (carried_whole words.Form) (record { one = λ a b x y oa ob e. carried_one words.Form a b x y oa ob e })
+    (λ c h. let r = some_named family c [] moduli.None 0 w h (omega arith, tt) refl (lit< tt) in (r.0, (r.1.valid, r.1.family), r.1.carried))
+    (λ r h. h.0.carried) (λ r h. refl)
+
+units_pair : (family : Family) (c : Carried) → IsFamily family → IsWellFormedCarried c → IsPair (AreAtMost (IsUnitPair c.algebra) 1140) (counted_text words.Units unit_text) (λ us r. HasCarried family c r × (r.units ≡ us)) modulus_rest (HasCarried family c) units_rest
+unfolding units_rest front_of
+units_pair family c w wc = field_pair (AreAtMost (IsUnitPair c.algebra) 1140) (counted_text words.Units unit_text) (HasCarried family c) units_rest (λ r. r.units) modulus_rest
+    (counted_whole words.Units 1140 (IsUnitPair c.algebra) unit_text (lit< tt) (unit_is_line c.algebra)) (counted_told words.Units 1140 (IsUnitPair c.algebra) unit_text (lit< tt) (unit_told c.algebra))
+    (λ us h. let r = some_named family c us moduli.None 0 w wc h refl (lit< tt) in (r.0, ((r.1.valid, r.1.family), r.1.carried), r.1.units))
+    (λ r h. subst (λ (z : Carried). AreAtMost (IsUnitPair z.algebra) 1140 r.units) h.1 (h.0.0.few_units, of_tests (λ u. is_element r.carried.algebra u.0 && is_element r.carried.algebra u.1) r.units h.0.0.units)) (λ r h. refl)
+
+modulus_is_line : (a : Algebra) (m : ModulusLine) → IsTrue (is_valid_modulus a m) → IsLine (word_line words.Modulus (modulus_text m))
+modulus_is_line a m h = line-word_line words.Modulus (modulus_text m) (modulus_clean a m h)
+
+modulus_pair : (family : Family) (c : Carried) (us : List UnitPair) → IsFamily family → IsWellFormedCarried c → AreAtMost (IsUnitPair c.algebra) 1140 us
+    → IsPair (λ m. IsTrue (is_valid_modulus c.algebra m)) (λ m. word_line words.Modulus (modulus_text m)) (λ m r. HasUnits family c us r × (r.modulus ≡ m)) milnor_rest (HasUnits family c us) modulus_rest
+unfolding modulus_rest front_of
+modulus_pair family c us w wc wu = field_pair (λ m. IsTrue (is_valid_modulus c.algebra m)) (λ m. word_line words.Modulus (modulus_text m)) (HasUnits family c us) modulus_rest (λ r. r.modulus) milnor_rest
+    (λ m h. whole-line (word_line words.Modulus (modulus_text m)) (modulus_is_line c.algebra m h)) (record { one = λ p q x y op oq e. reporting.modulus_line c.algebra c.algebra p q x y op oq e })
+    (λ m h. let r = some_named family c us m 0 w wc wu h (lit< tt) in (r.0, (((r.1.valid, r.1.family), r.1.carried), r.1.units), r.1.modulus))
+    (λ r h. subst (λ (z : Carried). IsTrue (is_valid_modulus z.algebra r.modulus)) h.0.1 h.0.0.0.modulus) (λ r h. refl)
+
+milnor_pair : (family : Family) (c : Carried) (us : List UnitPair) (m : ModulusLine) → IsFamily family → IsWellFormedCarried c → AreAtMost (IsUnitPair c.algebra) 1140 us → IsTrue (is_valid_modulus c.algebra m)
+    → IsPair (IsWithin 0 4294967295) (λ k. word_line words.Milnor (decimal k)) (λ k r. HasModulus family c us m r × (r.milnor ≡ k)) mather_rest (HasModulus family c us m) milnor_rest
+unfolding milnor_rest front_of
+milnor_pair family c us m w wc wu wm = field_pair (IsWithin 0 4294967295) (λ k. word_line words.Milnor (decimal k)) (HasModulus family c us m) milnor_rest (λ r. r.milnor) mather_rest
+    (λ k h. whole-line (word_line words.Milnor (decimal k)) (number_is_line words.Milnor 0 4294967295 (lit< tt) k h)) (numbers_told words.Milnor 0 4294967295 (lit< tt))
+    (λ k h. let le = h.1 in let r = some_named family c us m k w wc wu wm (omega (arith, le)) in (r.0, ((((r.1.valid, r.1.family), r.1.carried), r.1.units), r.1.modulus), r.1.milnor))
+    (λ r h. let lt = h.0.0.0.0.milnor in (omega arith, omega (arith, lt))) (λ r h. refl)
+
+-- ---- stops in these lines
+
+pub stop_in_carried : (family : Family) (bytes : List ℕ) (left : ℕ) → IsFamily family → IsStop IsWellFormedCarried (carried_text words.Form) bytes left → IsStop (IsOfFamily family) named_rest bytes left
+stop_in_carried family bytes left w s = pair_first IsWellFormedCarried (carried_text words.Form) (HasCarried family) units_rest (IsOfFamily family) named_rest bytes left (carried_pair family w) s
+
+pub behind_carried : (family : Family) (c : Carried) (bytes one : List ℕ) (left : ℕ) → IsFamily family → IsWellFormedCarried c → carried_text words.Form c ++ one ≡ bytes → IsStop (HasCarried family c) units_rest one left → IsStop (IsOfFamily family) named_rest bytes left
+behind_carried family c bytes one left w wc e s = pair_second IsWellFormedCarried (carried_text words.Form) (HasCarried family) units_rest (IsOfFamily family) named_rest c bytes one left (carried_pair family w) wc e s
+
+pub stop_in_units : (family : Family) (c : Carried) (bytes one : List ℕ) (left : ℕ) → IsFamily family → IsWellFormedCarried c → carried_text words.Form c ++ one ≡ bytes
+    → IsStop (AreAtMost (IsUnitPair c.algebra) 1140) (counted_text words.Units unit_text) one left → IsStop (IsOfFamily family) named_rest bytes left
+stop_in_units family c bytes one left w wc e s = behind_carried family c bytes one left w wc e
+    (pair_first (AreAtMost (IsUnitPair c.algebra) 1140) (counted_text words.Units unit_text) (HasUnits family c) modulus_rest (HasCarried family c) units_rest one left (units_pair family c w wc) s)
+
+behind_units : (family : Family) (c : Carried) (us : List UnitPair) (bytes one two : List ℕ) (left : ℕ) → IsFamily family → IsWellFormedCarried c → carried_text words.Form c ++ one ≡ bytes → AreAtMost (IsUnitPair c.algebra) 1140 us → counted_text words.Units unit_text us ++ two ≡ one
+    → IsStop (HasUnits family c us) modulus_rest two left → IsStop (IsOfFamily family) named_rest bytes left
+behind_units family c us bytes one two left w wc e wu d s = behind_carried family c bytes one left w wc e
+    (pair_second (AreAtMost (IsUnitPair c.algebra) 1140) (counted_text words.Units unit_text) (HasUnits family c) modulus_rest (HasCarried family c) units_rest us one two left (units_pair family c w wc) wu d s)
+
+pub stop_at_modulus : (family : Family) (c : Carried) (us : List UnitPair) (bytes one two : List ℕ) → IsFamily family → IsWellFormedCarried c → carried_text words.Form c ++ one ≡ bytes → AreAtMost (IsUnitPair c.algebra) 1140 us → counted_text words.Units unit_text us ++ two ≡ one
+    → IsNotAtFront (λ m. IsTrue (is_valid_modulus c.algebra m)) (λ m. word_line words.Modulus (modulus_text m)) two → IsStop (IsOfFamily family) named_rest bytes (length two)
+stop_at_modulus family c us bytes one two w wc e wu d none = behind_units family c us bytes one two (length two) w wc e wu d
+    (pair_first (λ m. IsTrue (is_valid_modulus c.algebra m)) (λ m. word_line words.Modulus (modulus_text m)) (HasModulus family c us) milnor_rest (HasUnits family c us) modulus_rest two (length two) (modulus_pair family c us w wc wu)
+    (line_stop (λ m. IsTrue (is_valid_modulus c.algebra m)) (λ m. word_line words.Modulus (modulus_text m)) two moduli.None refl (modulus_is_line c.algebra) none))
+
+-- the lines up to the modulus were read
+pub record ModulusRead (family : Family) (c : Carried) (us : List UnitPair) (m : ModulusLine) (bytes three : List ℕ) : Type 0 where
+  pub one : List ℕ
+  pub two : List ℕ
+  pub of_list : IsFamily family
+  pub carried : IsWellFormedCarried c
+  pub carried_lines : carried_text words.Form c ++ one ≡ bytes
+  pub units : AreAtMost (IsUnitPair c.algebra) 1140 us
+  pub units_lines : counted_text words.Units unit_text us ++ two ≡ one
+  pub modulus : IsTrue (is_valid_modulus c.algebra m)
+  pub modulus_line : word_line words.Modulus (modulus_text m) ++ three ≡ two
+
+behind_modulus : (family : Family) (c : Carried) (us : List UnitPair) (m : ModulusLine) (bytes three : List ℕ) (left : ℕ) → ModulusRead family c us m bytes three → IsStop (HasModulus family c us m) milnor_rest three left → IsStop (IsOfFamily family) named_rest bytes left
+behind_modulus family c us m bytes three left r s = behind_units family c us bytes r.one r.two left r.of_list r.carried r.carried_lines r.units r.units_lines
+    (pair_second (λ m. IsTrue (is_valid_modulus c.algebra m)) (λ m. word_line words.Modulus (modulus_text m)) (HasModulus family c us) milnor_rest (HasUnits family c us) modulus_rest m r.two three left (modulus_pair family c us r.of_list r.carried r.units) r.modulus r.modulus_line s)
+
+pub stop_at_milnor : (family : Family) (c : Carried) (us : List UnitPair) (m : ModulusLine) (bytes three : List ℕ) → ModulusRead family c us m bytes three → IsNotAtFront (IsWithin 0 4294967295) (λ k. word_line words.Milnor (decimal k)) three → IsStop (IsOfFamily family) named_rest bytes (length three)
+stop_at_milnor family c us m bytes three r none = behind_modulus family c us m bytes three (length three) r
+    (pair_first (IsWithin 0 4294967295) (λ k. word_line words.Milnor (decimal k)) (HasMilnor family c us m) mather_rest (HasModulus family c us m) milnor_rest three (length three) (milnor_pair family c us m r.of_list r.carried r.units r.modulus)
+    (line_stop (IsWithin 0 4294967295) (λ k. word_line words.Milnor (decimal k)) three 0 (omega arith, omega arith) (number_is_line words.Milnor 0 4294967295 (lit< tt)) none))
+
+pub stop_in_evidence : (f : Front) (bytes three four : List ℕ) (left : ℕ) → ModulusRead f.family f.carried f.units f.modulus bytes three → IsWithin 0 4294967295 f.milnor → word_line words.Milnor (decimal f.milnor) ++ four ≡ three
+    → IsStop (IsNamedAs f) mather_rest four left → IsStop (IsOfFamily f.family) named_rest bytes left
+stop_in_evidence f bytes three four left r h e s = behind_modulus f.family f.carried f.units f.modulus bytes three left r
+    (pair_second (IsWithin 0 4294967295) (λ k. word_line words.Milnor (decimal k)) (HasMilnor f.family f.carried f.units f.modulus) mather_rest (HasModulus f.family f.carried f.units f.modulus) milnor_rest f.milnor three four left
+      (milnor_pair f.family f.carried f.units f.modulus r.of_list r.carried r.units r.modulus) h e
+    (stop_before (IsNamedAs f) mather_rest (HasMilnor f.family f.carried f.units f.modulus f.milnor) mather_rest four left
+      (λ n v. (n, (((((v.valid, v.family), v.carried), v.units), v.modulus), v.milnor), ([], sym (append-nil (mather_rest n)))))
+      (λ n v. (n, record { valid = v.0.0.0.0.0; family = v.0.0.0.0.1; carried = v.0.0.0.1; units = v.0.0.1; modulus = v.0.1; milnor = v.1 }, ([], sym (append-nil (mather_rest n))))) s))
+
+pub named_read : (f : Front) (n : named_type.Named) (bytes three four end : List ℕ) → ModulusRead f.family f.carried f.units f.modulus bytes three → word_line words.Milnor (decimal f.milnor) ++ four ≡ three → IsNamedAs f n → mather_rest n ++ end ≡ four
+    → IsOfFamily f.family n × (named_rest n ++ end ≡ bytes)
+unfolding named_rest units_rest modulus_rest milnor_rest
+named_read f n bytes three four end r e h d =
+    ((h.valid, h.family),
+      append_assoc (carried_text words.Form n.carried) (units_rest n) end
+      ∙ ap (λ (z : List ℕ). carried_text words.Form n.carried ++ z) (append_assoc (counted_text words.Units unit_text n.units) (modulus_rest n) end
+      ∙ ap (λ (z : List ℕ). counted_text words.Units unit_text n.units ++ z) (append_assoc (word_line words.Modulus (modulus_text n.modulus)) (milnor_rest n) end
+      ∙ ap (λ (z : List ℕ). word_line words.Modulus (modulus_text n.modulus) ++ z) (append_assoc (word_line words.Milnor (decimal n.milnor)) (mather_rest n) end
+      ∙ ap (λ (z : List ℕ). word_line words.Milnor (decimal n.milnor) ++ z) d ∙ ap (λ (k : ℕ). word_line words.Milnor (decimal k) ++ four) h.milnor ∙ e)
+      ∙ ap (λ (m : ModulusLine). word_line words.Modulus (modulus_text m) ++ three) h.modulus ∙ r.modulus_line)
+      ∙ ap (λ (us : List UnitPair). counted_text words.Units unit_text us ++ r.two) h.units ∙ r.units_lines)
+      ∙ ap (λ (c : Carried). carried_text words.Form c ++ r.one) h.carried ∙ r.carried_lines)
+
+pub front_is : (f : Front) (bytes three : List ℕ) → ModulusRead f.family f.carried f.units f.modulus bytes three → f.milnor < 2 ^ 32 → IsFront f
+front_is f bytes three r lt = record { family = r.of_list; carried = r.carried; units = r.units; modulus = r.modulus; milnor = lt }
+
+-- ---- unresolved
+
+abbrev pub MatherOf : Carried → List (MatherRow Element) → Type 0
+MatherOf c rows = AreAtMost (IsRowOf c.algebra c.corank c.order) (most_rows c.corank) rows
+
+unresolved_pair : IsPair IsWellFormedCarried (carried_text words.Jet) (λ c r. IsWellFormedUnresolved r × (r.carried ≡ c)) (λ r. counted_text words.Mather mather_text r.mather) IsWellFormedUnresolved unresolved_rest
+unfolding unresolved_rest
+unresolved_pair = field_pair IsWellFormedCarried (carried_text words.Jet) IsWellFormedUnresolved unresolved_rest (λ r. r.carried) (λ r. counted_text words.Mather mather_text r.mather)
+    (carried_whole words.Jet) (record { one = λ a b x y oa ob e. carried_one words.Jet a b x y oa ob e })
+    (λ c h. (record { carried = c; mather = [] }, record { carried = h; mather = record { few = omega arith; each = tt } }, refl))
+    (λ r h. h.carried) (λ r h. refl)
+
+abbrev UnresolvedOf : Carried → unresolved_type.Unresolved → Type 0
+UnresolvedOf c r = IsWellFormedUnresolved r × (r.carried ≡ c)
+
+pub stop_in_jet : (bytes : List ℕ) (left : ℕ) → IsStop IsWellFormedCarried (carried_text words.Jet) bytes left → IsStop IsWellFormedUnresolved unresolved_rest bytes left
+stop_in_jet bytes left s = pair_first IsWellFormedCarried (carried_text words.Jet) UnresolvedOf (λ r. counted_text words.Mather mather_text r.mather) IsWellFormedUnresolved unresolved_rest bytes left unresolved_pair s
+
+pub stop_in_unresolved : (c : Carried) (bytes one : List ℕ) (left : ℕ) → IsWellFormedCarried c → carried_text words.Jet c ++ one ≡ bytes → IsStop (MatherOf c) (counted_text words.Mather mather_text) one left → IsStop IsWellFormedUnresolved unresolved_rest bytes left
+stop_in_unresolved c bytes one left w e s =
+    pair_second IsWellFormedCarried (carried_text words.Jet) UnresolvedOf (λ r. counted_text words.Mather mather_text r.mather) IsWellFormedUnresolved unresolved_rest c bytes one left unresolved_pair w e
+    (stop_before (MatherOf c) (counted_text words.Mather mather_text) (UnresolvedOf c) (λ r. counted_text words.Mather mather_text r.mather) one left
+      (λ rows h. (record { carried = c; mather = rows }, (record { carried = w; mather = rows_from c rows h }, refl), ([], sym (append-nil (counted_text words.Mather mather_text rows)))))
+      (λ r h. (r.mather, subst (λ (z : Carried). MatherOf z r.mather) h.1 (rows_to r.carried r.mather h.0.mather), ([], sym (append-nil (counted_text words.Mather mather_text r.mather))))) s)
+
+pub unresolved_read : (c : Carried) (rows : List (MatherRow Element)) (bytes one end : List ℕ) → IsWellFormedCarried c → carried_text words.Jet c ++ one ≡ bytes → MatherOf c rows → counted_text words.Mather mather_text rows ++ end ≡ one
+    → IsWellFormedUnresolved (record { carried = c; mather = rows }) × (unresolved_rest (record { carried = c; mather = rows }) ++ end ≡ bytes)
+unfolding unresolved_rest
+unresolved_read c rows bytes one end w e h d =
+    (record { carried = w; mather = rows_from c rows h }, append_assoc (carried_text words.Jet c) (counted_text words.Mather mather_text rows) end ∙ ap (λ (z : List ℕ). carried_text words.Jet c ++ z) d ∙ e)

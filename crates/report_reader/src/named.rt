@@ -1,10 +1,10 @@
 //! The lines of a named germ, and of an unresolved one.
 
-ghost use Rattle.std.specs.Prelude.{◌≡◌, None, IfOk, IfErr, IfSome};
+ghost use Rattle.std.specs.Prelude.{◌≡◌, ◌↔◌, None, IsTrue, IfOk, IfErr, IfSome};
 ghost use Rattle.cert_text.specs.WellFormed.{IsWellFormedUnresolved};
 ghost use Rattle.report_reader.specs.Blocks.{IsAtFront, IsNotAtFront, IsHalt};
-ghost use Rattle.report_reader.specs.Lines.{IsFamily};
-ghost use Rattle.report_reader.specs.Evidence.{frame_of as frame_of_carried, IsBasis, basis_line, IsFront, IsNamedAs, IsOfFamily, mather_rest, named_rest, unresolved_rest};
+ghost use Rattle.report_reader.specs.Lines.{IsFamily, IsWithin};
+ghost use Rattle.report_reader.specs.Evidence.{IsBasis, basis_line, IsFront, IsNamedAs, IsOfFamily, mather_rest, named_rest, unresolved_rest};
 
 use crate::carrying::read_carried;
 use crate::frame::Frame;
@@ -34,15 +34,11 @@ pub(crate) struct Front {
     pub milnor: u32,
 }
 
-// The order, the algebra and the corank.
-fn frame_of(c: &Carried) -> Frame
-    ensures { result ≡ frame_of_carried c.now }
+// A basis has at least one and at most 1,140 monomials.
+fn is_size(size: usize) -> bool
+    ensures { IsTrue result ↔ IsWithin 1 1140 size }
 {
-    Frame {
-        order: c.order,
-        algebra: c.algebra,
-        corank: c.corank,
-    }
+    size >= 1 && size <= 1140
 }
 
 // The basis in the line at the front.
@@ -60,10 +56,10 @@ fn take_basis(
             Err(NoMemory) => Err(NoMemory),
             Ok(None) => Ok(None),
             Ok(Some(basis)) => {
-                if basis.is_empty() || basis.len() > 1140 {
-                    Ok(None)
-                } else {
+                if is_size(basis.len()) {
                     Ok(Some((basis, rest)))
+                } else {
+                    Ok(None)
                 }
             }
         },
@@ -105,7 +101,11 @@ fn read_evidence(alloc: Global, front: Front, bytes: &[u8]) -> Result<(Named, &[
     ensures ok { IfOk result (IsAtFront (IsNamedAs front) mather_rest bytes.now) }
     ensures halt { IfErr result (IsHalt (IsNamedAs front) mather_rest bytes.now) }
 {
-    let frame = frame_of(&front.carried);
+    let frame = Frame {
+        order: front.carried.order,
+        algebra: front.carried.algebra,
+        corank: front.carried.corank,
+    };
     let (mather, one) = match read_mather(alloc, frame, bytes) {
         Err(halt) => return Err(halt),
         Ok(read) => read,
@@ -167,7 +167,12 @@ pub(crate) fn read_unresolved(alloc: Global, bytes: &[u8]) -> Result<(Unresolved
         Err(halt) => return Err(halt),
         Ok(read) => read,
     };
-    match read_mather(alloc, frame_of(&carried), one) {
+    let frame = Frame {
+        order: carried.order,
+        algebra: carried.algebra,
+        corank: carried.corank,
+    };
+    match read_mather(alloc, frame, one) {
         Err(halt) => Err(halt),
         Ok((mather, rest)) => Ok((Unresolved { carried, mather }, rest)),
     }
