@@ -1,5 +1,5 @@
 -- An optional value that is there, and one that is not.
-use Rattle.std.proofs.Common.{◌≡◌, ℕ, List, Option, Some, None, subst, sym, refl}
+use Rattle.std.proofs.Common.{◌≡◌, ℕ, Bool, true, false, List, Option, Some, None, subst, sym, refl}
 use Rattle.std.specs.Prelude.{Result, Ok, Err, IfSome, IfOk, IfErr}
 use Rattle.report_reader.specs.declared.halt.Halt.{Halt}
 use Rattle.report_reader.specs.Blocks.{IsStop, IsHalt}
@@ -18,3 +18,7 @@ pub err_map : {X A B : Type 0} (r : Result X Halt) (first : A → Type 0) (front
     → ((left : ℕ) → IsStop first front some left → IsStop valid text bytes left) → IfErr r (IsHalt first front some) → IfErr r (IsHalt valid text bytes)
 err_map (Ok x) first front some valid text bytes f h = tt
 err_map (Err e) first front some valid text bytes f h = halt_map first front some valid text bytes f e h
+
+pub not_both : (b : Bool) → b ≡ false → b ≡ true → ⊥
+not_both true f t = cc
+not_both false f t = cc

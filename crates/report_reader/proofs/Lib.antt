@@ -9,3 +9,4 @@ pub mod Matrix
 pub mod CarriedLines
 pub mod EvidenceLines
 pub mod NamedLines
+pub mod AnswerLines

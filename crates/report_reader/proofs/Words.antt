@@ -23,7 +23,7 @@ use Rattle.cert_text.specs.WellFormed.{has_small_numbers, is_valid_modulus}
 use Rattle.cert_law.proofs.Valid.{both, component_by, element_by}
 use Rattle.text_reader.specs.Reading.{IsAny}
 use Rattle.text_reader.proofs.Visible.{digits_lack}
-use Rattle.report_reader.specs.Lines.{IsClean, IsFamily}
+use Rattle.report_reader.specs.Lines.{IsClean, IsFamily, IsPlace, place_text}
 use Rattle.report_reader.proofs.Fronts.{clean-append}
 use Rattle.report_reader.proofs.Shown.{shows-clean, shows-fraction, shows-element}
 
@@ -127,3 +127,6 @@ modulus_clean a moduli.None h = omega arith
 modulus_clean a moduli.Form h = omega arith
 modulus_clean a (moduli.Value e) h = clean-append (codes "value ") (element_text e) (omega arith) (shows-clean (element_text e) (shows-element e (element_by a e h)))
 modulus_clean a (moduli.J q) h = clean-append (codes "j ") (fraction_text q) (omega arith) (shows-clean (fraction_text q) (shows-fraction q (component_by q h).small))
+
+pub place_clean : (v : ℕ × What) → IsPlace v → IsClean (place_text v)
+place_clean v lt = clean-append (decimal v.0) (32 ∷ what_text v.1) (digits_lack 10 v.0 (omega arith) (omega (arith, lt))) ((λ e. omega (arith, e)), what_clean v.1)

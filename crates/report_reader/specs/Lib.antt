@@ -3,3 +3,4 @@ pub mod Blocks
 pub mod States
 pub mod Rows
 pub mod Evidence
+pub mod Answers

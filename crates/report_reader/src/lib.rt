@@ -1,6 +1,7 @@
 //! Reading reports from their text.
 #![tactic(auto)]
 
+mod answer;
 mod carrying;
 mod change;
 mod error;

@@ -144,7 +144,7 @@ pub(crate) fn read_named(
         None => return Err(Halt::Stop { left: two.len() }),
         Some(taken) => taken,
     };
-    let (milnor, four) = match take_number(Word::Milnor, 0, u64::from(u32::MAX), three) {
+    let (milnor, four) = match take_number(Word::Milnor, 0, 4_294_967_295, three) {
         None => return Err(Halt::Stop { left: three.len() }),
         Some(taken) => taken,
     };

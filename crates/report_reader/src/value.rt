@@ -9,13 +9,14 @@ ghost use Rattle.cert_text.specs.WellFormed.{is_valid_name, is_valid_modulus};
 ghost use Rattle.text_reader.specs.Reading.{IsAny};
 ghost use Rattle.text_reader.specs.Moduli.{IsExtension};
 ghost use Rattle.report_reader.specs.Blocks.{IsAtFront, IsNotAtFront};
-ghost use Rattle.report_reader.specs.Lines.{IsFamily};
+ghost use Rattle.report_reader.specs.Lines.{IsFamily, IsPlace, place_text};
 
 use crate::line::take_word_line;
+use crate::pair::read_place;
 use cert_text::{Phase, Word};
 use ext_algebra::Algebra;
 use normal_forms::{Family, ModulusLine, Pattern};
-use poly_text::Name;
+use poly_text::{Name, What};
 use text_reader::{
     read_algebra, read_family, read_modulus, read_modulus_line, read_name, read_pattern, read_phase,
 };
@@ -112,6 +113,20 @@ pub(crate) fn take_modulus_line(a: Algebra, bytes: &[u8]) -> Option<(ModulusLine
     match take_word_line(Word::Modulus, bytes) {
         None => None,
         Some((text, rest)) => match read_modulus_line(a, text) {
+            None => None,
+            Some(value) => Some((value, rest)),
+        },
+    }
+}
+
+/// The column in the line at the front of an answer for a line outside the grammar, and what stands there.
+pub(crate) fn take_place(bytes: &[u8]) -> Option<((u32, What), &[u8])>
+    ensures some { IfSome result (IsAtFront IsPlace (λ v. word_line Word.Syntax (place_text v)) bytes.now) }
+    ensures none { result ≡ None → IsNotAtFront IsPlace (λ v. word_line Word.Syntax (place_text v)) bytes.now }
+{
+    match take_word_line(Word::Syntax, bytes) {
+        None => None,
+        Some((text, rest)) => match read_place(text) {
             None => None,
             Some(value) => Some((value, rest)),
         },

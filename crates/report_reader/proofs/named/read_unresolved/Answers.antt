@@ -21,8 +21,8 @@ returns-in-Err-read_mather-clause-halt c =
     halt_map (MatherOf c.in-Ok.read.0) (counted_text words.Mather mather_text) c.in-Ok.read.1.now IsWellFormedUnresolved unresolved_rest c.args.bytes.now
     (λ left s. stop_in_unresolved c.in-Ok.read.0 c.args.bytes.now c.in-Ok.read.1.now left a.0 a.1 s) c.in-Err-read_mather.halt c.in-Err-read_mather.ensures.halt
 
-pub returns-clause-ok : goal.returns-clause-ok
-returns-clause-ok c =
+pub returns-in-Ok-read_mather-clause-ok : goal.returns-in-Ok-read_mather-clause-ok
+returns-in-Ok-read_mather-clause-ok c =
     let a = c.in-Ok.ensures.ok in
     let m = c.in-Ok-read_mather.ensures.ok in
     unresolved_read c.in-Ok.read.0 c.in-Ok-read_mather.mather c.args.bytes.now c.in-Ok.read.1.now c.in-Ok-read_mather.rest.now a.0 a.1 m.0 m.1

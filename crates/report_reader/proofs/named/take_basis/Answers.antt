@@ -6,7 +6,7 @@ use Rattle.report_reader.specs.Lines.{IsWithin}
 use Rattle.report_reader.specs.Blocks.{IsNotAtFront}
 use Rattle.report_reader.specs.Evidence.{IsBasis, basis_line}
 use Rattle.report_reader.proofs.Fronts.{no_line_at, line_value_at, line_front}
-use Rattle.report_reader.proofs.Found.{some_is}
+use Rattle.report_reader.proofs.Found.{some_is, not_both}
 use Rattle.report_reader.proofs.NamedLines.{basis_clean, basis_size}
 use Rattle.report_reader.proofs.named.take_basis.Goals as goal
 
@@ -22,7 +22,8 @@ returns-then-is_size-clause-some c =
     let size = subst (λ (k : ℕ). IsWithin 1 1140 k) c.len.ensures (c.is_size.ensures.0 c.if-is_size.true) in
     (record { some = size.0; few = size.1; residual = read.0 }, line_front (basis_inside c.in-Ok-Some.basis) c.in-Some.text.now c.in-Some.rest.now c.args.bytes.now read.1 c.in-Some.ensures.some.0)
 
-pub returns-else-is_size-clause-none : goal.returns-else-is_size-clause-none
-returns-else-is_size-clause-none c _ =
+pub returns-clause-none : goal.returns-clause-none
+returns-clause-none c _ =
     let read = some_is c.in-Ok-Some.field-0 c.in-Ok-Some.basis _ c.in-Ok-Some.field-0-is c.in-Ok-Some.ensures.some in
-    basis_size c.args.corank c.in-Ok-Some.basis c.in-Some.text.now c.in-Some.rest.now c.args.bytes.now read.0 read.1 c.in-Some.ensures.some.0 ?
+    basis_size c.args.corank c.in-Ok-Some.basis c.in-Some.text.now c.in-Some.rest.now c.args.bytes.now read.0 read.1 c.in-Some.ensures.some.0
+    (λ h. not_both c.is_size.result c.if-is_size.false (c.is_size.ensures.1 (subst (λ (k : ℕ). IsWithin 1 1140 k) (sym c.len.ensures) h)))
