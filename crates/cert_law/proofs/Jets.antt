@@ -62,12 +62,12 @@ factors_front d (e ∷ es) ld fit some =
 pub starred_front : (m : Exp) → IsMonomial m → is_one m ≡ false → IsFactors (starred m)
 starred_front m is some = subst IsFactors (sym (starred_is m is.eight)) (factors_front 49 m.e (omega arith) is.fit some)
 
-factors_body : (b : List ℕ) → IsFactors b → IsBody b
+pub factors_body : (b : List ℕ) → IsFactors b → IsBody b
 factors_body [] f = absurd f
 factors_body (star ∷ []) f = absurd f
 factors_body (star ∷ c ∷ r) f = (f.0, omega (arith, f.1), f.2)
 
-factors_inside : (b : List ℕ) → IsFactors b → AllByRecursion IsInside b
+pub factors_inside : (b : List ℕ) → IsFactors b → AllByRecursion IsInside b
 factors_inside [] f = absurd f
 factors_inside (star ∷ []) f = absurd f
 factors_inside (star ∷ c ∷ r) f = (inr f.0, (inl (omega (arith, f.1)), f.2))
@@ -79,30 +79,30 @@ factors_is (star ∷ c ∷ r) f = (r, cc (f.0, f.1))
 
 -- ---- the coefficient and the factors of a lump
 
-abbrev zero_fraction : Frac
+abbrev pub zero_fraction : Frac
 zero_fraction = record { num = pos 0; den = pos 1 }
 
-abbrev Read : Type 0
+abbrev pub Read : Type 0
 Read = Element × List ℕ
 
-abbrev as0 : Frac → Element
+abbrev pub as0 : Frac → Element
 as0 q = record { c0 = q; c1 = zero_fraction; c2 = zero_fraction }
 
-abbrev as1 : Frac → Element
+abbrev pub as1 : Frac → Element
 as1 q = record { c0 = zero_fraction; c1 = q; c2 = zero_fraction }
 
-abbrev as2 : Frac → Element
+abbrev pub as2 : Frac → Element
 as2 q = record { c0 = zero_fraction; c1 = zero_fraction; c2 = q }
 
-abbrev behind : List ℕ → List ℕ
+abbrev pub behind : List ℕ → List ℕ
 behind [] = []
 behind (b ∷ bs) = bs
 
-abbrev read_t : Frac → List ℕ → Read
+abbrev pub read_t : Frac → List ℕ → Read
 read_t q [] = (as1 q, [])
 read_t q (s ∷ r) = cond (eqb s 94) (as2 q, behind r) (as1 q, s ∷ r)
 
-abbrev decode : Lump → Read
+abbrev pub decode : Lump → Read
 decode (Bracketed e b) = (e, b)
 decode (Simple q []) = (as0 q, [])
 decode (Simple q (s ∷ [])) = (as0 q, s ∷ [])
@@ -139,13 +139,13 @@ decoded e b is f =
 
 -- ---- terms with factors
 
-abbrev lump_of : Term → Lump
+abbrev pub lump_of : Term → Lump
 lump_of t = lump_by (pieces_of t.1) t.1 (starred t.0)
 
 term_is : (t u : Term) → t.0 ≡ u.0 → t.1 ≡ u.1 → t ≡ u
 term_is t u a b = λ i. (a i, b i)
 
-lump_tells : (t u : Term) → IsHigher t → IsHigher u → lump_of t ≡ lump_of u → t ≡ u
+pub lump_tells : (t u : Term) → IsHigher t → IsHigher u → lump_of t ≡ lump_of u → t ≡ u
 lump_tells t u ot ou e =
     let a = decoded t.1 (starred t.0) ot.term.coefficient (starred_front t.0 ot.term.monomial ot.higher) in
     let b = decoded u.1 (starred u.0) ou.term.coefficient (starred_front u.0 ou.term.monomial ou.higher) in
@@ -177,7 +177,7 @@ lump_by_is false true false e b some n0 n1 n2 is f = record { element = is; fact
 lump_by_is true false false e b some n0 n1 n2 is f = record { element = is; factors = factors_body b f }
 lump_by_is false false false e b some n0 n1 n2 is f = record { element = is; factors = factors_body b f }
 
-higher_lump : (t : Term) → IsHigher t → IsLump (lump_of t)
+pub higher_lump : (t : Term) → IsHigher t → IsLump (lump_of t)
 higher_lump t is =
     let e = t.1 in
     lump_by_is (is_zero_fraction e.c0) (is_zero_fraction e.c1) (is_zero_fraction e.c2) e (starred t.0) is.term.nonzero (nonzero e.c0) (nonzero e.c1) (nonzero e.c2) is.term.coefficient (starred_front t.0 is.term.monomial is.higher)
@@ -188,7 +188,7 @@ term_by : (t : Bool) (c s : List ℕ) → t ≡ false → cond t c s ≡ s
 term_by true c s e = absurd cc
 term_by false c s e = refl
 
-higher_text : (t : Term) → IsHigher t → term_in new_names t ≡ lump_text (lump_of t)
+pub higher_text : (t : Term) → IsHigher t → term_in new_names t ≡ lump_text (lump_of t)
 unfolding term_in
 higher_text t is =
     term_by (is_one t.0) (components_text t.1) (signed_text (scaled_text t.1 (starred t.0))) is.higher
@@ -217,7 +217,7 @@ lumps_all (t ∷ ts) = first_lumps (is_one t.0) t ++ map lump_of ts
 abbrev IsInner : Lump → Type 0
 IsInner l = (decode l).1 ≡ []
 
-abbrev IsOuter : Lump → Type 0
+abbrev pub IsOuter : Lump → Type 0
 IsOuter l = (decode l).1 ≡ [] → ⊥
 
 cut_lumps : (a b x y : List Lump) → AllByRecursion IsInner a → AllByRecursion IsInner b → AllByRecursion IsOuter x → AllByRecursion IsOuter y → a ++ x ≡ b ++ y → (a ≡ b) × (x ≡ y)
@@ -254,7 +254,7 @@ some_by false true false e some q = cc
 some_by true false false e some q = cc
 some_by false false false e some q = cc
 
-outer : (t : Term) → IsHigher t → IsOuter (lump_of t)
+pub outer : (t : Term) → IsHigher t → IsOuter (lump_of t)
 outer t is q =
     let f = factors_is (starred t.0) (starred_front t.0 is.term.monomial is.higher) in
     let d = decoded t.1 (starred t.0) is.term.coefficient (starred_front t.0 is.term.monomial is.higher) in

@@ -113,7 +113,7 @@ not_all true true false h p q r = cc
 not_all true false c h p q r = cc
 not_all false b c h p q r = cc
 
-pub term_by : (n order : ℕ) (a : Algebra) (t : Term) → order ≤ 17 → is_term_of n order a t ≡ true → IsTerm t
+pub term_by : (n order : ℕ) (a : Algebra) (t : Term) → order < 256 → is_term_of n order a t ≡ true → IsTerm t
 term_by n order a t le e =
     let m = is_monomial_in n t.0 in
     let d = leb (sum t.0.e) order in
@@ -129,17 +129,17 @@ term_by n order a t le e =
       monomial = monomial_by n t.0 q.0 (omega (arith, low, le));
     }
 
-higher_by : (n order : ℕ) (a : Algebra) (m : Exp) (ts : List Term) → order ≤ 17 → AllAfter m ts → list_all (is_term_of n order a) ts ≡ true → AllByRecursion IsHigher ts
+pub higher_by : (n order : ℕ) (a : Algebra) (m : Exp) (ts : List Term) → order < 256 → AllAfter m ts → list_all (is_term_of n order a) ts ≡ true → AllByRecursion IsHigher ts
 higher_by n order a m [] le after e = tt
 higher_by n order a m (t ∷ ts) le after e =
     let p = both (is_term_of n order a t) (list_all (is_term_of n order a) ts) e in
     (record { term = term_by n order a t le p.0; higher = not_one (is_one t.0) m.e t.0.e refl after.0 }, higher_by n order a m ts le after.1 p.1)
 
-terms_by : (n order : ℕ) (a : Algebra) (ts : List Term) → order ≤ 17 → IsRising ts → list_all (is_term_of n order a) ts ≡ true → IsPolynomial ts
+terms_by : (n order : ℕ) (a : Algebra) (ts : List Term) → order < 256 → IsRising ts → list_all (is_term_of n order a) ts ≡ true → IsPolynomial ts
 terms_by n order a [] le rising e = tt
 terms_by n order a (t ∷ ts) le rising e =
     let p = both (is_term_of n order a t) (list_all (is_term_of n order a) ts) e in
     (term_by n order a t le p.0, higher_by n order a t.0 ts le rising.0 p.1)
 
-pub polynomial_by : (n order : ℕ) (a : Algebra) (f : JetTerms Element) → order ≤ 17 → IsJetOf n order a f → IsPolynomial f.terms
+pub polynomial_by : (n order : ℕ) (a : Algebra) (f : JetTerms Element) → order < 256 → IsJetOf n order a f → IsPolynomial f.terms
 polynomial_by n order a f le is = terms_by n order a f.terms le is.rising is.terms

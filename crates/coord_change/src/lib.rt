@@ -1,4 +1,4 @@
-//! Changes of coordinates: the identity, composition, and the transformed jet.
+//! Changes of coordinates: the identity, linear changes, changes from given parts, composition, inverses, and the transformed jet.
 #![tactic(auto)]
 
 mod change;
@@ -20,6 +20,7 @@ pub use composition::then;
 pub use error::ChangeError;
 pub use forms::linear;
 pub use inversion::invert_to;
-pub use parts::from_parts;
+pub use matrix::{matrix_product, unit_matrix};
+pub use parts::{from_parts, linear_part};
 pub use pullback::carry;
 pub use unit::identity;

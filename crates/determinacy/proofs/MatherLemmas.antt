@@ -45,6 +45,7 @@ pub record Steps {E V : Type 0} (m : Meaning E V) (g : JetTerms E) (k n : ℕ) (
   pub monomials : List Exp
   pub targets : List (Row E)
   pub solutions : List (Solution E)
+  pub small : n ≤ 8
   pub are_partials : ArePartials m n (poly_of n m.value g.terms) partials
   pub are_multiples : AreMultiples n 2 k multiples
   pub are_rows : AreRowsOf m n (count_to n (k + 1)) (k + 1) partials multiples rows
@@ -118,7 +119,13 @@ module _ {E V : Type 0} (m : Meaning E V) (c : IsCommRing m.scalars.ops) (set : 
     is i f h = from.multipliers.each i f h
 
     is_jet : (i : ℕ) → IsJetOf m n k (jet_of n k (terms_of multiples cs i))
-    is_jet i = record { jet = MultiplierLemmas.multiplier_jet m n 2 k multiples steps.are_multiples i k cs (omega arith) from.are.line.units within; variables = refl; order = refl }
+    is_jet i = record {
+      jet = MultiplierLemmas.multiplier_jet m n 2 k multiples steps.are_multiples i k cs (omega arith) from.are.line.units within;
+      variables = refl;
+      order = refl;
+      rising = MultiplierLemmas.terms_rise n 2 k steps.small multiples steps.are_multiples i cs from.are.line.rising within;
+      long = MultiplierLemmas.multiplier_long m n 2 k multiples steps.are_multiples i cs from.are.line.units within;
+    }
 
     starts : (i : ℕ) → StartsAt (exps n) r 2 (poly_of n m.value (terms_of multiples cs i))
     starts i = Combinations.starts_terms r c set n 2 (poly_of n m.value (terms_of multiples cs i)) (MultiplierLemmas.multiplier_low m n 2 k multiples steps.are_multiples i cs from.are.line.units within)
@@ -225,17 +232,18 @@ pub answer_from : {E V : Type 0} (m : Meaning E V) (c : IsCommRing m.scalars.ops
 answer_from m c set g k n e low answer steps = answer_at m c set g k low answer (subst (λ i. Steps m g k i answer) e steps)
 
 module _ {E V X : Type 0} (m : Meaning E V) (c : IsCommRing m.scalars.ops) (set : IsSet V) (g : JetTerms E) (k n : ℕ) (e : n ≡ g.n) (partials : List (JetTerms E)) (us : List Multiple) (rows : List (Row E)) (ms : List Exp) (targets : List (Row E)) (ss : List (Solution E)) where
-  pub answer_ok : StartsAtIn g.n m.scalars.ops 2 (poly_of g.n m.value g.terms) → ArePartials m g.n (poly_of g.n m.value g.terms) partials → AreMultiples n 2 k us → AreRowsOf m n (count_to n (k + 1)) (k + 1) partials us rows
+  pub answer_ok : n ≤ 8 → StartsAtIn g.n m.scalars.ops 2 (poly_of g.n m.value g.terms) → ArePartials m g.n (poly_of g.n m.value g.terms) partials → AreMultiples n 2 k us → AreRowsOf m n (count_to n (k + 1)) (k + 1) partials us rows
       → map (λ a. exponents n a.e) ms ≡ monomials_of n (k + 1) → All (λ a. IsIn n a.e) ms → AreMonomialRows m n (count_to n (k + 1)) ms targets → AreSolutions m rows targets ss
       → (res : Result (MatherTest E) X) → IfOk res (IsAnswerBy m n k us ms ss) → IfOk res (IsAnswer m g k)
-  answer_ok low are multiples all list unused all_targets solutions (Err x) h = tt
-  answer_ok low are multiples all list unused all_targets solutions (Ok answer) h = answer_from m c set g k n e low answer (record {
+  answer_ok small low are multiples all list unused all_targets solutions (Err x) h = tt
+  answer_ok small low are multiples all list unused all_targets solutions (Ok answer) h = answer_from m c set g k n e low answer (record {
     partials = partials;
     multiples = us;
     rows = rows;
     monomials = ms;
     targets = targets;
     solutions = ss;
+    small = small;
     are_partials = subst (λ i. ArePartials m i (poly_of i m.value g.terms) partials) (sym e) are;
     are_multiples = multiples;
     are_rows = all;

@@ -1,6 +1,6 @@
 -- What Mather's test answers, and when it is refused.
 use Rattle.std.specs.Prelude.{◌≡◌, ℕ, ◌+◌, ◌⊎◌, List, map, length}
-use Rattle.std.specs.List.{AllByRecursion}
+use Rattle.std.specs.List.{All, AllByRecursion}
 use Rattle.ring_theory.specs.Scalars.{Scalars, Meaning}
 use Rattle.poly_law.specs.ExpList.{exps}
 use Rattle.poly_law.specs.Poly.{IsMatherRow, MatherFails}
@@ -24,11 +24,13 @@ pub record IsMonomialIn (n : ℕ) (a : Exp) : Type 0 where
   pub unused : IsIn n a.e
   pub long : length a.e ≡ 8
 
--- a jet of order k in n variables
+-- a jet of order k in n variables, its terms in the monomial order with eight exponents each
 pub record IsJetOf {E V : Type 0} (m : Meaning E V) (n k : ℕ) (f : JetTerms E) : Type 0 where
   pub jet : IsJet m f
   pub variables : f.n ≡ n
   pub order : f.order ≡ k
+  pub rising : IsRising f.terms
+  pub long : All (λ t. length t.0.e ≡ 8) f.terms
 
 -- a row of the test at k for g: the monomial is, modulo degree k + 2, the combination of the partials with the multipliers, which are jets of
 -- order k in the variables of g without terms of degree below 2

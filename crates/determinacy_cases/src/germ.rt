@@ -1,4 +1,4 @@
-//! Mather's test and the quotient of jets whose lowest degree is not known before.
+//! Mather's test of jets whose lowest degree is not known before.
 
 ghost use Rattle.std.specs.Prelude.{◌≡◌, ◌≤◌, true, IfOk};
 ghost use Rattle.poly_law.specs.Polynomials.{StartsAtIn};
@@ -6,8 +6,6 @@ ghost use Rattle.jet_poly.specs.Jets.{IsJet, polynomial_of};
 
 use determinacy::{MatherTest, mather};
 use jet_poly::JetOf;
-use jet_quotient::quotient;
-use milnor_alg::JetQuotient;
 use mono_exp::degree;
 use ring_law::{Fault, Field, Ring};
 use std::alloc::Global;
@@ -43,25 +41,6 @@ pub fn test_of<F: Field>(
     if starts_at_two(field, f) {
         let test = mather(alloc, field, f, f.order())?;
         return Ok(Some(test));
-    }
-    Ok(None)
-}
-
-/// The truncated Milnor algebra of a jet at its order; none where the jet has a term of degree below 2.
-pub fn quotient_of<F: Field>(
-    alloc: Global,
-    field: &F,
-    f: &JetOf<F>,
-) -> Result<Option<JetQuotient<F::Elem>>, Fault>
-    requires ring { F.is_ring field.now }
-    requires jet { IsJet (F.meaning field.now) f.now }
-    requires at_most_8_variables { f.now.n ≤ 8 }
-    requires order_at_least_2 { 2 ≤ f.now.order }
-    requires order_at_most_16 { f.now.order ≤ 16 }
-{
-    if starts_at_two(field, f) {
-        let algebra = quotient(alloc, field, f, f.order())?;
-        return Ok(Some(algebra));
     }
     Ok(None)
 }

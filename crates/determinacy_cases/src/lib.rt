@@ -5,4 +5,4 @@ mod germ;
 #[cfg(test)]
 mod tests;
 
-pub use germ::{quotient_of, test_of};
+pub use germ::test_of;

@@ -6,9 +6,10 @@ ghost use Rattle.std.specs.Prelude.{◌≡◌, ◌≤◌, IfOk};
 ghost use Rattle.ring_law.specs.Fraction.{IsFrac, rational_meaning};
 ghost use Rattle.jet_poly.specs.Jets.{IsJet};
 
-use crate::{quotient_of, test_of};
+use crate::test_of;
 use determinacy::MatherTest;
 use jet_poly::{Jet, from_terms};
+use jet_quotient::quotient;
 use milnor_alg::JetQuotient;
 use mono_exp::Exp;
 use ring_law::{Fault, Frac, Ring};
@@ -125,11 +126,8 @@ fn x9(alloc: Global) -> Result<Jet<Frac>, Fault>
 }
 
 /// How many monomials the basis has, and how many rows the table.
-fn sizes(algebra: Option<JetQuotient<Frac>>) -> (usize, usize) {
-    match algebra {
-        Some(q) => (q.basis.len(), q.table.len()),
-        None => (0, 0),
-    }
+fn sizes(algebra: JetQuotient<Frac>) -> (usize, usize) {
+    (algebra.basis.len(), algebra.table.len())
 }
 
 // In two variables there are 15 monomials of degree at most 4.
@@ -137,7 +135,7 @@ fn sizes(algebra: Option<JetQuotient<Frac>>) -> (usize, usize) {
 fn x9_has_nine_basis_monomials(rt: HostRuntime) -> Result<(), Fail> {
     let f = x9(rt.alloc())?;
     assert_eq!(rt;
-        sizes(quotient_of(rt.alloc(), &Rationals, &f)?),
+        sizes(quotient(rt.alloc(), &Rationals, &f, 4)?),
         (9, 15),
         "nine and fifteen"
     );

@@ -1,6 +1,6 @@
 -- The multipliers that a combination of multiples gives.
 use Rattle.std.proofs.Common.{◌≡◌, ◌≢◌, ℕ, ◌<◌, ◌≤◌, Bool, true, false, cond, eqb, eqb-true, List, [], ◌∷◌, length, map, sum, refl, sym, ◌∙◌, arith}
-use Rattle.std.specs.List.{filter, AllByRecursion}
+use Rattle.std.specs.List.{filter, All, AllByRecursion}
 use Rattle.std.proofs.lemmas.List.Elements.{All-from_recursion}
 use Rattle.ring_theory.specs.Scalars.{Meaning}
 use Rattle.poly_law.specs.Exps.{degree}
@@ -44,6 +44,7 @@ module _ {E : Type 0} (n low high : ℕ) (small : n ≤ 8) (ms : List Multiple) 
 -- a term of a multiplier
 pub record IsFactorTerm {E V : Type 0} (m : Meaning E V) (n low high : ℕ) (t : Exp × E) : Type 0 where
   pub unused : IsIn n t.0.e
+  pub long : length t.0.e ≡ 8
   pub from : low ≤ sum t.0.e
   pub to : sum t.0.e ≤ high
   pub elem : m.is_elem t.1
@@ -63,6 +64,7 @@ module _ {E V : Type 0} (m : Meaning E V) (n low high : ℕ) (us : List Multiple
       step true r = (
         record {
           unused = are.unused t.0 (record { factor = record { e = [] }; variable = 0 }) below.0;
+          long = are.long t.0 (record { factor = record { e = [] }; variable = 0 }) below.0;
           from = factor_from n low high us are t.0 (record { factor = record { e = [] }; variable = 0 }) below.0;
           to = factor_to n low high us are t.0 (record { factor = record { e = [] }; variable = 0 }) below.0;
           elem = units.0.0;
@@ -84,7 +86,11 @@ module _ {E V : Type 0} (m : Meaning E V) (n low high : ℕ) (us : List Multiple
         units = All-from_recursion (λ t. m.value t.1 ≢ m.scalars.ops.zero) ts (weaker (IsFactorTerm m n low high) (λ t. m.value t.1 ≢ m.scalars.ops.zero) (λ t x. x.unit) ts all);
       }
 
-  -- whose terms have the degrees of the factors
+  -- whose terms have eight exponents each
+  pub multiplier_long : (cs : List (ℕ × E)) → AllUnits m cs → AllBelow (length us) cs → All (λ t. length t.0.e ≡ 8) (terms_of us cs i)
+  multiplier_long cs units below = All-from_recursion (λ t. length t.0.e ≡ 8) (terms_of us cs i) (weaker (IsFactorTerm m n low high) (λ t. length t.0.e ≡ 8) (λ t x. x.long) (terms_of us cs i) (factor_terms cs units below))
+
+  -- and the degrees of the factors
   pub multiplier_low : (cs : List (ℕ × E)) → AllUnits m cs → AllBelow (length us) cs → AllByRecursion (λ t. low ≤ degree (exps n) t.0) (poly_of n m.value (terms_of us cs i))
   multiplier_low cs units below = go (terms_of us cs i) (factor_terms cs units below)
     where

@@ -1,6 +1,6 @@
 -- The answer of the quotient, from its rows.
 use Rattle.std.proofs.Common.{◌≡◌, ◌≢◌, ℕ, zero, suc, ◌+◌, ◌<◌, ◌≤◌, Bool, true, false, cond, not, eqb, eq-eqb, ne_eqb, List, [], ◌∷◌, ◌++◌, length, get_or, map, sum, refl, sym, ap, ap₂, subst, ◌∙◌, arith}
-use Rattle.std.specs.List.{AllByRecursion, All}
+use Rattle.std.specs.List.{AllByRecursion, All, filter}
 use Rattle.std.proofs.Math.Decide.{dec_le}
 use Rattle.std.proofs.lemmas.List.Elements.{recursion_from_All}
 use Rattle.std.proofs.lemmas.Bool.{eqb-true}
@@ -17,7 +17,7 @@ use Rattle.poly_law.proofs.ExpLaws
 use Rattle.poly_law.proofs.Sums
 use Rattle.poly_law.proofs.Order
 use Rattle.mono_exp.specs.declared.exponent.Exp.{Exp}
-use Rattle.mono_exp.specs.Exponents.{IsIn, exponents, monomials_below}
+use Rattle.mono_exp.specs.Exponents.{IsIn, exponents, monomials_below, rank_of}
 use Rattle.jet_law.specs.Terms.{exp_of, poly_of}
 use Rattle.jet_law.proofs.TermLemmas.{degree-exp_of}
 use Rattle.jet_poly.specs.JetTerms.{JetTerms}
@@ -38,7 +38,7 @@ use Rattle.determinacy.proofs.FailureLemmas.{degree_below}
 use Rattle.milnor_alg.specs.declared.quotient.TableRow.{TableRow}
 use Rattle.milnor_alg.specs.declared.quotient.JetQuotient.{JetQuotient}
 use Rattle.jet_quotient.specs.Answers.{number_of, begins_at, IsRowBy, AreRowsBy}
-use Rattle.jet_quotient.specs.Quotients.{row_of, basis_at, values_at, multipliers_at, IsTableRow, IsQuotientOf}
+use Rattle.jet_quotient.specs.Quotients.{row_of, basis_at, values_at, multipliers_at, IsTableRow, AreSomeMonomials, IsQuotientOf}
 use Rattle.jet_quotient.proofs.ListFacts
 use Rattle.jet_quotient.proofs.CallFacts.{rows-count}
 use Rattle.jet_quotient.proofs.TableFacts
@@ -221,8 +221,13 @@ module _ {E V : Type 0} (m : Meaning E V) (c : IsCommRing m.scalars.ops) (set : 
   monomials_in : All (IsMonomialIn n) monomials
   monomials_in i a h = record { unused = made.unused i a h; long = long_list i a h }
 
-  pub basis_are : AllByRecursion (IsMonomialIn n) basis
-  basis_are = recursion_from_All (IsMonomialIn n) basis (subst (All (IsMonomialIn n)) (sym made.basis_is) (ListFacts.kept_all free (IsMonomialIn n) monomials monomials_in))
+  pub basis_are : AreSomeMonomials n k basis
+  basis_are = record {
+    are_in = recursion_from_All (IsMonomialIn n) basis (subst (All (IsMonomialIn n)) (sym made.basis_is) (ListFacts.kept_all free (IsMonomialIn n) monomials monomials_in));
+    chosen = λ e. not (begins_at form (rank_of n e));
+    list = ap (map (λ (a : Exp). exponents n a.e)) made.basis_is ∙ ListFacts.images-kept (λ e. not (begins_at form (rank_of n e))) (λ (a : Exp). exponents n a.e) monomials
+        ∙ ap (filter (λ e. not (begins_at form (rank_of n e)))) (made.are_monomials ∙ ap (monomials_below n) (let e : suc k ≡ k + 1 = omega arith in e));
+  }
 
   same_list : (xs : List (TableRow E)) (ms : List Exp) → length xs ≡ length ms → ((i : ℕ) → i < length xs → (get_or xs i no_row).monomial ≡ get_or ms i none) → map (λ row. exponents n row.monomial.e) xs ≡ map (λ a. exponents n a.e) ms
   same_list [] [] e h = refl
@@ -244,7 +249,13 @@ module _ {E V : Type 0} (m : Meaning E V) (c : IsCommRing m.scalars.ops) (set : 
         elems = q.elems;
         multipliers = q.multipliers.count;
         jets = recursion_from_All (IsJetOf m n k) (get_or table i row).multipliers (λ j f l. subst (IsJetOf m n k) (sym (q.multipliers.each j f l))
-            (record { jet = MultiplierLemmas.multiplier_jet m n 0 k multiples made.are_multiples j k cs (omega arith) rem.rest.coefficients.units within; variables = refl; order = refl }));
+            (record {
+              jet = MultiplierLemmas.multiplier_jet m n 0 k multiples made.are_multiples j k cs (omega arith) rem.rest.coefficients.units within;
+              variables = refl;
+              order = refl;
+              rising = MultiplierLemmas.terms_rise n 0 k made.small multiples made.are_multiples j cs rem.rest.coefficients.rising within;
+              long = MultiplierLemmas.multiplier_long m n 0 k multiples made.are_multiples j cs rem.rest.coefficients.units within;
+            }));
       }
 
   pub monomials_are : map (λ row. exponents n row.monomial.e) table ≡ monomials_below n (k + 1)

@@ -44,6 +44,16 @@ pub numbers_rise : (n d : ℕ) (ms : List Exp) → map (λ a. exponents n a.e) m
 numbers_rise n d ms list = rise n ms 0 (λ i a h. number-at n d ms list i a h ∙ (let e : i ≡ 0 + i = omega arith in e))
 
 -- ---- those that a test keeps
+
+-- the images of those whose images pass are the images that pass
+pub images-kept : {X Y : Type 0} (p : Y → Bool) (f : X → Y) (xs : List X) → map f (filter (λ x. p (f x)) xs) ≡ filter p (map f xs)
+images-kept p f [] = refl
+images-kept {X} {Y} p f (x ∷ xs) = step (p (f x)) (images-kept p f xs)
+  where
+    step : (b : Bool) → map f (filter (λ x. p (f x)) xs) ≡ filter p (map f xs) → map f (cond b (x ∷ filter (λ x. p (f x)) xs) (filter (λ x. p (f x)) xs)) ≡ cond b (f x ∷ filter p (map f xs)) (filter p (map f xs))
+    step true e = ap (λ (ys : List Y). f x ∷ ys) e
+    step false e = e
+
 module _ {X : Type 0} (p : X → Bool) where
   pub kept_all : (P : X → Type 0) (xs : List X) → All P xs → All P (filter p xs)
   kept_all P [] all = all

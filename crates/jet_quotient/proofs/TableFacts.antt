@@ -53,6 +53,7 @@ pub record Reduced {E V : Type 0} (m : Meaning E V) (g : JetTerms E) (k n : ℕ)
   pub rows : List (Row E)
   pub targets : List (Row E)
   pub form : List (Row E)
+  pub small : n ≤ 8
   pub are_partials : ArePartials m n (poly_of n m.value g.terms) partials
   pub are_multiples : AreMultiples n 0 k multiples
   pub are_rows : AreRowsOf m n (count_to n k) k partials multiples rows

@@ -1,5 +1,5 @@
 -- What the quotient answers, and when it is refused.
-use Rattle.std.specs.Prelude.{◌≡◌, ℕ, ◌+◌, ◌⊎◌, List, [], map, length, get_or, find, unwrap_or}
+use Rattle.std.specs.Prelude.{◌≡◌, ℕ, ◌+◌, ◌⊎◌, Bool, List, [], map, filter, length, get_or, find, unwrap_or}
 use Rattle.std.specs.List.{AllByRecursion}
 use Rattle.ring_theory.specs.Scalars.{Scalars, Meaning}
 use Rattle.poly_law.specs.Exps.{same}
@@ -44,10 +44,16 @@ pub record IsTableRow {E V : Type 0} (m : Meaning E V) (n k size : ℕ) (row : T
   pub multipliers : length row.multipliers ≡ n
   pub jets : AllByRecursion (IsJetOf m n k) row.multipliers
 
--- the truncated Milnor algebra of g at k: a basis of monomials in the variables of g, and one row for each monomial of degree at most k, in the
--- monomial order, which give the k-jets modulo the Jacobian ideal of g
+-- some of the monomials of degree at most k in n variables, in the monomial order
+pub record AreSomeMonomials (n k : ℕ) (monomials : List Exp) : Type 0 where
+  pub are_in : AllByRecursion (IsMonomialIn n) monomials
+  pub chosen : List ℕ → Bool
+  pub list : map (λ a. exponents n a.e) monomials ≡ filter chosen (monomials_below n (k + 1))
+
+-- the truncated Milnor algebra of g at k: a basis, some of the monomials of degree at most k in the variables of g, and one row for each of these monomials,
+-- both in the monomial order, which give the k-jets modulo the Jacobian ideal of g
 pub record IsQuotientOf {E V : Type 0} (m : Meaning E V) (g : JetTerms E) (k : ℕ) (q : JetQuotient E) : Type 0 where
-  pub basis : AllByRecursion (IsMonomialIn g.n) q.basis
+  pub basis : AreSomeMonomials g.n k q.basis
   pub monomials : map (λ row. exponents g.n row.monomial.e) q.table ≡ monomials_below g.n (k + 1)
   pub rows : AllByRecursion (IsTableRow m g.n k (length q.basis)) q.table
   pub table : IsQuotientTable (exps g.n) m.scalars.ops k (polynomial_of m g) (length q.basis) (basis_at g.n q.basis) (values_at m g.n q.table) (multipliers_at m g.n q.table)

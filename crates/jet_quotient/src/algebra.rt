@@ -1,8 +1,7 @@
 //! The truncated Milnor algebra of a jet.
 
-ghost use Rattle.std.specs.Prelude.{◌≡◌, ◌≤◌, IfOk};
+ghost use Rattle.std.specs.Prelude.{◌≤◌, IfOk};
 ghost use Rattle.ring_law.specs.Refusals.{OnFault};
-ghost use Rattle.poly_law.specs.Polynomials.{StartsAtIn};
 ghost use Rattle.jet_poly.specs.Jets.{IsJet, polynomial_of};
 ghost use Rattle.jet_quotient.specs.Quotients.{IsQuotientOf, IsQuotientHigh};
 
@@ -16,9 +15,8 @@ use ring_law::{Fault, Field};
 use sqlite_items::Items;
 use std::alloc::Global;
 
-/// The k-jets modulo the Jacobian ideal of a k-jet g without terms of degree below 2: a basis of monomials of degree at most k, and one row for each
-/// monomial of degree at most k, in the monomial order, with its values on the basis and the multipliers of the partials which, modulo degree k + 1, make
-/// the difference.
+/// The k-jets modulo the Jacobian ideal of g: a basis of monomials of degree at most k, and one row for each monomial of degree at most k, both in the
+/// monomial order; a row has the values of its monomial on the basis, and the multipliers of the partials which, modulo degree k + 1, make the difference.
 ///
 /// Errors: `Range` only where the height of the partials, or of the plain row reduction of their multiples with the reduction of the monomials, is 2^120
 /// or more.
@@ -32,10 +30,7 @@ pub fn quotient<F: Field>(
     requires ring { F.is_ring field.now }
     requires jet { IsJet (F.meaning field.now) g.now }
     requires at_most_8_variables { g.now.n ≤ 8 }
-    requires order { g.now.order ≡ k }
-    requires order_at_least_2 { 2 ≤ k }
     requires order_at_most_16 { k ≤ 16 }
-    requires low { let m = F.meaning field.now in StartsAtIn g.now.n m.scalars.ops 2 (polynomial_of m g.now) }
     ensures quotient { IfOk result (IsQuotientOf (F.meaning field.now) g.now k) }
     ensures range { OnFault result (let m = F.meaning field.now in IsQuotientHigh g.now.n m.scalars k (polynomial_of m g.now)) }
 {

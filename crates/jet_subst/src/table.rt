@@ -91,9 +91,11 @@ pub fn monomial_product<R: Ring>(
     let mut power = one(alloc, ring, n, k)?;
     for i in 0..parts.len() {
         let exponent = usize::from(a.e[i]);
-        let factor = &table[i].as_slice()[exponent];
-        let next = product(alloc, ring, &power, factor, k)?;
-        power = next;
+        if exponent > 0 {
+            let factor = &table[i].as_slice()[exponent];
+            let next = product(alloc, ring, &power, factor, k)?;
+            power = next;
+        }
     }
     Ok(power)
 }

@@ -52,7 +52,7 @@ piece_ends : (piece : List ℕ) (after : Lines) → IsPiece piece after → afte
 piece_ends piece after (bytes, unbroken, inl e) going = ap (ends_with 10) e ∙ ends_newline bytes
 piece_ends piece after (bytes, unbroken, inr e) going = absurd (let ended = e.2 in cc)
 
-kept_one : (piece : List ℕ) (t : Bool) → t ≡ true → cond t (piece ∷ []) [] ≡ piece ∷ []
+pub kept_one : (piece : List ℕ) (t : Bool) → t ≡ true → cond t (piece ∷ []) [] ≡ piece ∷ []
 kept_one piece true e = refl
 kept_one piece false e = absurd cc
 
@@ -60,14 +60,14 @@ whole_more : (pieces : List (List ℕ)) (piece : List ℕ) → filter (ends_with
 whole_more pieces piece e f =
     filter-append (ends_with 10) pieces (piece ∷ []) ∙ ap (λ (x : List (List ℕ)). x ++ filter (ends_with 10) (piece ∷ [])) e ∙ ap (λ (x : List (List ℕ)). pieces ++ x) (kept_one piece (ends_with 10 piece) f)
 
-not_both : {A : Type 0} (t : Bool) → t ≡ true → t ≡ false → A
+pub not_both : {A : Type 0} (t : Bool) → t ≡ true → t ≡ false → A
 not_both t e f = absurd cc
 
-was_going : (was is : Bool) → (was ≡ true → is ≡ true) → is ≡ false → was ≡ false
+pub was_going : (was is : Bool) → (was ≡ true → is ≡ true) → is ≡ false → was ≡ false
 was_going false is h e = refl
 was_going true is h e = not_both is (h refl) e
 
-at_end_more : (now next : Option (List ℕ)) (was : Bool) → (was ≡ true → IsAtEnd now) → ((was ≡ true) × (next ≡ now)) ⊎ IsAtEnd next → IsAtEnd next
+pub at_end_more : (now next : Option (List ℕ)) (was : Bool) → (was ≡ true → IsAtEnd now) → ((was ≡ true) × (next ≡ now)) ⊎ IsAtEnd next → IsAtEnd next
 at_end_more now next was h (inl e) = let P : Option (List ℕ) → Type 0 = λ x. IsAtEnd x in subst P (sym e.1) (h e.0)
 at_end_more now next was h (inr e) = e
 

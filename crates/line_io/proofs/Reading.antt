@@ -286,7 +286,7 @@ not_after before mid old new faults later s part kept next other i p out e off =
 
 -- ---- the loop begins and goes on
 
-Consumes-kept : (a b c : Option (List ℕ)) (xs : List ℕ) → Consumes a b xs → Keeps b c → Consumes a c xs
+pub Consumes-kept : (a b c : Option (List ℕ)) (xs : List ℕ) → Consumes a b xs → Keeps b c → Consumes a c xs
 Consumes-kept None b c xs p q = tt
 Consumes-kept (Some first) None c xs p q = absurd p
 Consumes-kept (Some first) (Some second) None xs p q = absurd q
@@ -389,7 +389,7 @@ gathers_more before mid gathered after old new next faults later last i same all
 
 -- ---- the pieces of an input
 
-pieces_ended : (bytes rest : List ℕ) → IsUnbroken bytes → pieces_of ((bytes ++ 10 ∷ []) ++ rest) ≡ (bytes ++ 10 ∷ []) ∷ pieces_of rest
+pub pieces_ended : (bytes rest : List ℕ) → IsUnbroken bytes → pieces_of ((bytes ++ 10 ∷ []) ++ rest) ≡ (bytes ++ 10 ∷ []) ∷ pieces_of rest
 unfolding pieces_of
 pieces_ended [] rest p = refl
 pieces_ended (b ∷ bs) rest p = rw (is_not_newline b p.0, pieces_ended bs rest p.1) refl

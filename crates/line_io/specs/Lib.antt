@@ -1,7 +1,10 @@
 pub mod Bytes
 pub mod Causes
+pub mod ChunkSoFar
+pub mod Chunks
 pub mod LineSoFar
 pub mod Lines
 pub mod Memory
 pub mod Reading
+pub mod ReadingChunks
 pub mod Room

@@ -34,6 +34,7 @@ pub record IsFresh (lines : Lines) : Type 0 where
   pub nothing_taken : lines.taken ≡ 0
   pub going : lines.ended ≡ false
   pub sound : lines.faulted ≡ false
+  pub in_memory : lines.out_of_memory ≡ false
 
 -- the line is handed out: itself up to 65,536 bytes, and its length above
 abbrev pub IsHandedOut : List ℕ → List ℕ → Next → Type 0

@@ -1,4 +1,4 @@
-//! The lines of a source, one after another.
+//! The lines or chunks of a source, one after another.
 ghost use Rattle.std.specs.Prelude.{◌≡◌, ◌≤◌, [], length, false, IfOk};
 
 use crate::line_buffer::LineBuffer;
@@ -6,7 +6,7 @@ use crate::read_buffer::ReadBuffer;
 use ring_law::NoMemory;
 use std::alloc::Global;
 
-/// The lines of a source, read as they come into buffers that are taken once.
+/// The lines or the chunks of a source, read as they come into buffers that are taken once.
 #[derive(Drop)]
 pub struct Lines {
     pub(crate) buffer: ReadBuffer,
@@ -14,6 +14,7 @@ pub struct Lines {
     pub(crate) taken: u64,
     pub(crate) ended: bool,
     pub(crate) faulted: bool,
+    pub(crate) out_of_memory: bool,
     ghost small: { length buffer ≤ 65536 },
 }
 
@@ -35,6 +36,7 @@ impl Lines {
                 taken: 0,
                 ended: false,
                 faulted: false,
+                out_of_memory: false,
             }),
             Err(error) => Err(error),
         }

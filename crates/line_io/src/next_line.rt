@@ -1,13 +1,14 @@
 //! The next line of a source.
 ghost use Rattle.line_io.specs.Causes.{Rose};
 ghost use Rattle.line_io.specs.LineSoFar.{IsUnbroken, Pushes};
-ghost use Rattle.line_io.specs.Reading.{EndsAll, HandsOut, HasNoLine, IsDecided, PassesLimit, Takes, has_ended, has_failed, is_handed_out, taken_count};
+ghost use Rattle.line_io.specs.Reading.{EndsAll, HandsOut, HasNoLine, IsDecided, PassesLimit, Takes, has_ended, has_failed, held_bytes, is_handed_out, taken_count};
 ghost use Rattle.std.specs.Io.KnownBytes.{Consumes, IsAtEnd, Keeps};
 ghost use Rattle.std.specs.Prelude.{◌≡◌, ◌≤◌, ◌<◌, ◌+◌, ◌^◌, ◌↔◌, ◌⊎◌, ◌++◌, ◌∷◌, ℕ, List, [], length, true, false, OnErr, OnOk};
 
 use crate::line::newline_at;
 use crate::lines::Lines;
 use crate::next::Next;
+use crate::next_chunk::CHUNKS_LIMIT;
 use crate::{Failed, Source};
 
 /// The most bytes of an input.
@@ -39,15 +40,16 @@ impl Lines {
     }
 
     // Reads the next bytes into the empty buffer.
-    fn fill<S: Source>(&mut self, source: &mut S) -> Result<(), Failed>
+    pub(crate) fn fill<S: Source>(&mut self, source: &mut S) -> Result<(), Failed>
         requires empty { self.old.buffer ≡ [] }
-        requires open { self.old.taken ≤ INPUT_LIMIT }
+        requires open { self.old.taken ≤ CHUNKS_LIMIT }
         ensures ok { OnOk result (Consumes (S.left source.old) (S.left source.new) self.new.buffer) }
         ensures counted { OnOk result (self.new.taken ≡ self.old.taken + length self.new.buffer) }
         ensures ended { OnOk result (self.new.ended ≡ true → IsAtEnd (S.left source.new)) }
         ensures more { OnOk result (self.new.ended ≡ false → 0 < length self.new.buffer) }
         ensures sound { OnOk result (self.new.faulted ≡ self.old.faulted) }
         ensures line { self.new.line ≡ self.old.line }
+        ensures memory { self.new.out_of_memory ≡ self.old.out_of_memory }
         ensures later { S.faults source.old ≤ S.faults source.new }
         ensures failed { OnErr result (Rose (S.faults source.old) (S.faults source.new) × Keeps (S.left source.old) (S.left source.new)) }
         ensures stopped { OnErr result ((self.new.buffer ≡ []) × (self.new.taken ≡ self.old.taken) × (self.new.ended ≡ self.old.ended) × (self.new.faulted ≡ true)) }
@@ -69,13 +71,15 @@ impl Lines {
     /// was not read to its end.
     ///
     /// After `Next::Line` the line is `line`. `Next::Long` has the length of a line of more than
-    /// 65,536 bytes. `Next::End` comes where every byte of the input went with a line.
+    /// 65,536 bytes. `Next::End` comes exactly where the input was read to its end and every byte of it
+    /// went with a line that an earlier call answered.
     ///
     /// Errors: `Next::ReadFault` only where a read failed, in this call or an earlier one, and
     /// `Next::InputLimit` exactly where more than 16,777,216 bytes were taken; then no later call reads.
     pub fn next_line<S: Source>(&mut self, source: &mut S) -> Next
         ensures line { is_handed_out result ≡ true → HandsOut self.old self.new (S.left source.old) (S.left source.new) result }
         ensures end { result ≡ Next.End → EndsAll self.old self.new (S.left source.old) (S.left source.new) }
+        ensures all_given { has_ended self.new ≡ true → held_bytes self.old ≡ [] → taken_count self.new ≡ taken_count self.old → (result ≡ Next.End) ⊎ (has_failed self.old ≡ true) ⊎ (INPUT_LIMIT < taken_count self.old) }
         ensures fault { result ≡ Next.ReadFault → (has_failed self.new ≡ true) × ((has_failed self.old ≡ true) ⊎ (Rose (S.faults source.old) (S.faults source.new) × HasNoLine self.old (S.left source.old) (S.left source.new))) }
         ensures limit { (result ≡ Next.InputLimit) ↔ (INPUT_LIMIT < taken_count self.new) }
         ensures passed { result ≡ Next.InputLimit → (INPUT_LIMIT < taken_count self.old) ⊎ PassesLimit self.old (S.left source.old) (S.left source.new) }
@@ -83,7 +87,7 @@ impl Lines {
         ensures ended { has_ended self.new ≡ true → ((has_ended self.old ≡ true) × (S.left source.new ≡ S.left source.old)) ⊎ IsAtEnd (S.left source.new) }
         ensures unread { IsDecided self.old → (S.left source.new ≡ S.left source.old) × (S.faults source.new ≡ S.faults source.old) }
         ensures sound { has_failed self.new ≡ true → (has_failed self.old ≡ true) ⊎ (result ≡ Next.ReadFault) }
-        ensures stays { has_failed self.old ≡ true → has_failed self.new ≡ true }
+        ensures stays { has_failed self.old ≡ true → (has_failed self.new ≡ true) × ((result ≡ Next.ReadFault) ⊎ (result ≡ Next.InputLimit)) }
         ensures later { S.faults source.old ≤ S.faults source.new }
     {
         if self.taken > INPUT_LIMIT {

@@ -1,7 +1,7 @@
 //! Sources and sinks in memory, call by call, and the lines of an input. The expected values are
 //! counted by hand.
 use crate::{
-    CleanSource, Lines, MemSink, MemSource, Next, Sink, Source, StdSink, StdSource,
+    Chunk, CleanSource, Lines, MemSink, MemSource, Next, Sink, Source, StdSink, StdSource,
     is_answered_line, write_whole,
 };
 use std::test::*;
@@ -94,6 +94,66 @@ fn long_lines_and_faults(rt: HostRuntime) -> Result<(), Fail> {
     let mut lines = Lines::new(rt.alloc()).map_err(|_| MEMORY)?;
     for wanted in [Next::Line, Next::ReadFault, Next::ReadFault] {
         assert_eq!(rt; lines.next_line(&mut source), wanted);
+    }
+    Ok(())
+}
+
+// The answer as the bytes of a chunk and the name of the answer.
+fn shown(chunk: &Chunk) -> (&[u8], &'static str) {
+    match chunk {
+        Chunk::Bytes(bytes) => (bytes.as_slice(), "bytes"),
+        Chunk::End => (b"", "end"),
+        Chunk::ReadFault => (b"", "read fault"),
+        Chunk::InputLimit => (b"", "input limit"),
+    }
+}
+
+#[test]
+fn chunks_as_they_come(rt: HostRuntime) -> Result<(), Fail> {
+    let wanted = [
+        (b"germ a\nend\n".as_slice(), "bytes"),
+        (b"end x\nended\n end\nend\r\n", "bytes"),
+        (b"end\n", "bytes"),
+        (b"\nend", "bytes"),
+        (b"", "end"),
+        (b"", "end"),
+    ];
+    for step in [1, 7, 100] {
+        let input = b"germ a\nend\nend x\nended\n end\nend\r\nend\n\nend";
+        let mut source = MemSource::new(rt.alloc(), input, step, &[]).map_err(|_| MEMORY)?;
+        let mut lines = Lines::new(rt.alloc()).map_err(|_| MEMORY)?;
+        for row in wanted {
+            let chunk = lines
+                .next_chunk(rt.alloc(), &mut source)
+                .map_err(|_| MEMORY)?;
+            assert_eq!(rt; shown(&chunk), row);
+        }
+    }
+    Ok(())
+}
+
+#[test]
+fn a_read_that_fails_within_a_chunk(rt: HostRuntime) -> Result<(), Fail> {
+    let wanted = [
+        (b"a\nend\n".as_slice(), "bytes"),
+        (b"", "read fault"),
+        (b"", "read fault"),
+    ];
+    for (step, call) in [(1, 9), (7, 2), (8, 2)] {
+        let mut source = MemSource::new(rt.alloc(), b"a\nend\nb\nend\n", step, &[call]).map_err(
+            |_| MEMORY,
+        )?;
+        let mut lines = Lines::new(rt.alloc()).map_err(|_| MEMORY)?;
+        for row in wanted {
+            let chunk = lines
+                .next_chunk(rt.alloc(), &mut source)
+                .map_err(|_| MEMORY)?;
+            assert_eq!(rt;
+                shown(&chunk),
+                row,
+                "failing at call {call} with steps of {step}"
+            );
+        }
     }
     Ok(())
 }

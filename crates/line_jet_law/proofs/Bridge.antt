@@ -73,7 +73,7 @@ before-exponents n a b i j h =
     ]
 
 -- and by places
-before_in : (n : ℕ) (a b : Exp) → IsIn n a.e → IsIn n b.e → is_before a.e b.e ≡ true → stands_before n (exp_of n a) (exp_of n b) ≡ true
+pub before_in : (n : ℕ) (a b : Exp) → IsIn n a.e → IsIn n b.e → is_before a.e b.e ≡ true → stands_before n (exp_of n a) (exp_of n b) ≡ true
 before_in n a b i j h =
     lt-ltb (place (exponents n a.e)) (place (exponents n b.e))
     (before-place (exponents n a.e) (exponents n b.e) (length-exponents n a.e ∙ sym (length-exponents n b.e)) (before-exponents n a.e b.e i j h))

@@ -13,8 +13,10 @@ use jet_poly::{JetOf, coef};
 use ring_law::{Fault, Ring};
 use std::alloc::Global;
 
-/// The coefficients at the monomials of the family's sum, in order.
-pub(crate) fn sum_coefficients<R: Ring>(
+/// The coefficients that a jet has at the monomials of a family's sum, in the order of the list of
+/// families, as `modulus` takes them. The coefficient is 0 where the monomial does not occur.
+/// No sum is formed, so the only error is want of memory.
+pub fn sum_coefficients<R: Ring>(
     alloc: Global,
     ring: &R,
     family: Family,

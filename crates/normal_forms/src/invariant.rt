@@ -123,8 +123,11 @@ pub fn quartic_invariants<R: Ring>(ring: &R, q: &[R::Elem]) -> Result<(R::Elem, 
     Ok((i, j))
 }
 
-/// The invariant I and the discriminant `I^3 - 27*J^2` of a binary quartic.
-pub(crate) fn quartic_i_and_discriminant<R: Ring>(
+/// The invariant I and the discriminant `I^3 - 27*J^2` of a binary quartic, by its plain coefficients
+/// from `x^4` to `y^4`.
+///
+/// Errors: `Range` only where a number that the formulas form has height 2^120 or more.
+pub fn quartic_i_and_discriminant<R: Ring>(
     ring: &R,
     q: &[R::Elem],
 ) -> Result<(R::Elem, R::Elem), Range>

@@ -19,11 +19,13 @@ mod sum;
 mod unit;
 
 pub use assembly::form_of;
+pub use coefficient::sum_coefficients;
 pub use family::Family;
 pub use form::{corank, has_form, is_form};
 pub use invariant::{
     QUARTIC_DISCRIMINANT, QUARTIC_I, QUARTIC_J, QUARTIC_NUMERATOR, TRIPLE_DISCRIMINANT,
-    TRIPLE_NUMERATOR, quartic_discriminant_of, quartic_invariants, triple_discriminant_of,
+    TRIPLE_NUMERATOR, quartic_discriminant_of, quartic_i_and_discriminant, quartic_invariants,
+    triple_discriminant_of,
 };
 pub use j_invariant::modulus;
 pub use kind::{Kind, family_kind};

@@ -1,14 +1,6 @@
 -- Which lines get which answer: two kinds of answers exclude each other, since bytes spell one line.
-use Rattle.std.proofs.Common.{◌≡◌, ℕ, ◌+◌, ◌<◌, ◌≤◌, ◌⊎◌, inl, inr, true, List, [], ◌∷◌, ◌++◌, length, IsTrue, refl, sym, ap, ap₂, subst, ◌∙◌, arith, leb-true, append_assoc}
-use Rattle.std.specs.Prelude.{nat_le, slice_index_or}
-use Rattle.std.specs.List.{list_all}
-use Rattle.std.proofs.lemmas.List.Folds.{list_all-append}
-use Rattle.line_syntax.specs.Syntax.{Word, Line, Token, number, number_of, names_of, tokens_of}
-use Rattle.line_syntax.specs.Grammar.{IsSpaced, Spells, IsSyntaxError, IsLiteralError, has_small_literals, is_small_token, literal_limit}
-use Rattle.line_syntax.proofs.Bools.{and_left, and_right}
-use Rattle.line_syntax.proofs.OneLine.{one_line}
-use Rattle.line_reader.proofs.Held.{spaced_append, one_spaced}
-use Rattle.germ_law.specs.Germ.{IsCritical, IsFirstLinear}
+use Rattle.std.proofs.Common.{◌≡◌, ℕ, ◌+◌, ◌<◌, ◌≤◌, ◌⊎◌, inl, inr, List, length, refl, sym, ap, ap₂, subst, ◌∙◌, arith}
+use Rattle.line_syntax.specs.Syntax.{Word, Line}
 use Rattle.poly_text.specs.declared.name.Name.{Name}
 use Rattle.poly_text.specs.declared.what.What.{What}
 use Rattle.poly_text.specs.Polynomials.{name_text}
@@ -20,6 +12,7 @@ use Rattle.cert_text.specs.declared.report.Phase.TheVariants as phases
 use Rattle.cert_text.specs.declared.report.Phase.{Phase}
 use Rattle.cert_text.specs.declared.report.Report.{Report}
 use Rattle.cert_text.specs.declared.report.Report.TheVariants as reports
+use Rattle.report_law.proofs.Exclusions.{large_spelled, small_excludes, grammar_excludes, critical_excludes, one_front, one_variable_name}
 use Rattle.report_law.specs.Items.{IsSyntaxRefusal, IsLiteralRefusal, IsNotCritical}
 use Rattle.report_law.specs.Right.{IsManyVariables, IsRead, IsRightAnswer}
 use Rattle.line_germ.specs.Answers.{what_at}
@@ -97,78 +90,6 @@ short_of limit line r few h = by_form (form_of limit line r h)
     by_form : Form limit line r → Short line r
     by_form (long above is) = absurd (omega arith)
     by_form (short a low is right planned) = record { answer = a; report_is = is; kind = kind_of limit line a right planned }
-
--- ---- what excludes what
-
-record Spelled (line : List ℕ) : Type 0 where
-  pub line_is : Line
-  pub spells : Spells line line_is
-  pub not_small : IsTrue (has_small_literals line_is) → ⊥
-
-not_all : (before after : List Token) (d : Word) → literal_limit < number_of d → list_all is_small_token (before ++ number d ∷ after) ≡ true → ⊥
-not_all before after d above h =
-    let both = sym (list_all-append is_small_token before (number d ∷ after)) ∙ h in
-    let here : nat_le (number_of d) literal_limit ≡ true = and_left (is_small_token (number d)) (list_all is_small_token after) (and_right (list_all is_small_token before) (list_all is_small_token (number d ∷ after)) both) in
-    let low : number_of d ≤ literal_limit = leb-true (number_of d) literal_limit here in
-    omega arith
-
--- a line with a number that is too large is in the grammar
-large_spelled : (line : List ℕ) (column : ℕ) → IsLiteralRefusal line column → Spelled line
-large_spelled line column h =
-    let e : IsLiteralError line h.place = h.error in
-    let number_spaced = spaced_append (number e.digits ∷ []) e.after e.digits e.rest (one_spaced (number e.digits) e.digits refl) e.rest_spaced in
-    let whole = spaced_append e.before (number e.digits ∷ e.after) e.front (e.digits ++ e.rest) e.front_spaced number_spaced in
-    record {
-      line_is = e.line;
-      spells = record {
-        is_line = e.is_line;
-        spaced = subst (λ b. IsSpaced (tokens_of e.line) b) (sym (e.bytes_are ∙ append_assoc e.front e.digits e.rest)) (subst (λ ts. IsSpaced ts (e.front ++ (e.digits ++ e.rest))) (sym e.tokens) whole);
-      };
-      not_small = λ small. not_all e.before e.after e.digits e.large (ap (list_all is_small_token) (sym e.tokens) ∙ small);
-    }
-
-small_excludes : (line : List ℕ) (column : ℕ) (l : Line) → Spells line l → IsTrue (has_small_literals l) → IsLiteralRefusal line column → ⊥
-small_excludes line column l spells small h =
-    let s = large_spelled line column h in
-    s.not_small (subst (λ m. IsTrue (has_small_literals m)) (one_line line l s.line_is spells s.spells) small)
-
-grammar_excludes : (line : List ℕ) (column : ℕ) (what : What) (l : Line) → Spells line l → IsSyntaxRefusal line column what → ⊥
-grammar_excludes line column what l spells h = h.error.outside (l, spells)
-
--- a critical line has no linear coefficient
-critical_excludes : (line : List ℕ) (l : Line) (w : Word) → IsCritical line l → IsNotCritical line w → ⊥
-critical_excludes line l w critical h =
-    let same : l ≡ h.line = one_line line l h.line critical.spells h.spells in
-    let there : IsCritical line h.line = subst (IsCritical line) same critical in
-    h.first.linear (there.critical h.place h.first.within)
-
--- the longest front is one
-one_front : (line : List ℕ) (n m : ℕ) → IsSyntaxError line n → IsSyntaxError line m → n ≡ m
-one_front line n m h k = elim (below_or line n m) [
-  | inl below ↦ absurd (h.longest m below k.within k.viable)
-  | inr (inl above) ↦ absurd (k.longest n above h.within h.viable)
-  | inr (inr same) ↦ same
-]
-  where
-    below_or : (line : List ℕ) (n m : ℕ) → (n < m) ⊎ ((m < n) ⊎ (n ≡ m))
-    below_or line n m = grind arith
-
--- the first linear coefficient that is not 0 is one
-one_place : (l : Line) (i j : ℕ) → IsFirstLinear l i → IsFirstLinear l j → i ≡ j
-one_place l i j h k = elim (below_or i j) [
-  | inl below ↦ absurd (h.linear (k.first i below))
-  | inr (inl above) ↦ absurd (k.linear (h.first j above))
-  | inr (inr same) ↦ same
-]
-  where
-    below_or : (i j : ℕ) → (i < j) ⊎ ((j < i) ⊎ (i ≡ j))
-    below_or i j = grind arith
-
-one_variable_name : (line : List ℕ) (v w : Word) → IsNotCritical line v → IsNotCritical line w → v ≡ w
-one_variable_name line v w h k =
-    let same : h.line ≡ k.line = one_line line h.line k.line h.spells k.spells in
-    let place : h.place ≡ k.place = one_place k.line h.place k.place (subst (λ l. IsFirstLinear l h.place) same h.first) k.first in
-    h.variable_is ∙ ap (λ l. slice_index_or (names_of l) h.place []) same ∙ ap (λ i. slice_index_or (names_of k.line) i []) place ∙ sym k.variable_is
 
 -- ---- the laws
 

@@ -7,10 +7,9 @@ ghost use Rattle.report_law.specs.Right.{IsManyVariables, IsRight, IsRightAnswer
 ghost use Rattle.std.specs.List.{list_all};
 ghost use Rattle.std.specs.Prelude.{◌≡◌, ◌≤◌, IfOk, IsTrue, ◌&&◌, not, ◌==◌, nat_lt, length};
 
-use crate::certificate::{mather_rows, quotient};
+use crate::certificate::{mather_rows, milnor_algebra};
 use crate::piece::{
-    carried_jet, form, inverse_of, one, power_of_u1, rational_element, whole_number,
-    zero_polynomial,
+    carried_jet, empty_jet, form, inverse_of, one, power_of_u1, rational_element, whole_number,
 };
 use cert_text::{Answer, Limit, Named, Phase, Report};
 use determinacy::MatherRow;
@@ -65,7 +64,7 @@ fn named_answer(alloc: Global, name: Name, m: u8, c: Frac) -> Result<Answer, All
             });
         }
     };
-    let quotient = match quotient(alloc, m, c) {
+    let quotient = match milnor_algebra(alloc, m, c) {
         Ok(quotient) => quotient,
         Err(Fault::NoMemory) => return Err(AllocError),
         Err(Fault::Range(_)) => {
@@ -84,7 +83,7 @@ fn limit_answer(alloc: Global, name: Name, order: u8) -> Result<Limit, AllocErro
 {
     let value = (power_of_u1(order + 1), rational_element(whole_number(1)));
     Ok(Limit {
-        carried: carried_jet(alloc, name, order, 1, zero_polynomial(alloc, order))?,
+        carried: carried_jet(alloc, name, order, 1, empty_jet(alloc, 1, order))?,
         at: power_of_u1(order + 1),
         functional: one(alloc, value)?,
     })
@@ -161,8 +160,8 @@ fn report(alloc: Global, line: &[u8], limit: u8) -> Result<Report, AllocError>
 /// with its place, and `Range` in the phase `Line` comes only where reading the line forms a number of height 2^120 or
 /// more. A critical line in more than one variable is `Unbuilt`. In one variable let c*x^m be the term of least degree
 /// of the germ. For m up to the limit the answer is A(m-1) with order m, the identity change and the form `c*u1^m`;
-/// `Range` in the phases `Mather` and `Milnor` comes in its place only where m is at least 3 and `m*c` has height 2^120 or
-/// more. Where there is no such term the answer is `Limit` at the limit, with the functional that is 1 on `u1^(limit + 1)`.
+/// `Range` in the phases `Mather` and `Milnor` comes in its place only where m is at least 3 and Mather's test of c*x^m at m, or its quotient, forms a
+/// number of height 2^120 or more. Where there is no such term the answer is `Limit` at the limit, with the functional that is 1 on `u1^(limit + 1)`.
 ///
 /// Source: Arnold, Gusein-Zade, Varchenko, Singularities of Differentiable Maps, volume 1.
 pub fn classify(alloc: Global, line: &[u8], limit: u8) -> Result<Report, NoMemory>

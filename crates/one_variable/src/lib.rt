@@ -3,6 +3,7 @@
 
 mod answer;
 mod certificate;
+mod field;
 mod laws;
 mod piece;
 

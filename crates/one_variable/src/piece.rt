@@ -1,11 +1,8 @@
 //! Numbers, powers and polynomials in one variable, as the pieces of a report.
-ghost use Rattle.one_variable_law.specs.Plan.{IsDerivativeHigh};
-ghost use Rattle.one_variable_law.specs.Reports.{whole, rational, power, single, zero_jet, identity, corank_of, form_of, carried_of};
-ghost use Rattle.one_variable_law.specs.Rows.{IsInverseMultiple};
+ghost use Rattle.one_variable_law.specs.Reports.{whole, rational, power, single, identity, corank_of, form_of, carried_of};
 ghost use Rattle.ring_law.specs.Fraction.{IsFrac, Represents, frac_value};
-ghost use Rattle.ring_law.specs.Refusals.{OnRange};
 ghost use Rattle.ring_theory.specs.Rational.{rational_ops, rational_inv};
-ghost use Rattle.std.specs.Prelude.{◌≡◌, ◌≢◌, ◌≤◌, ◌∷◌, [], IfOk, pos};
+ghost use Rattle.std.specs.Prelude.{◌≡◌, ◌≢◌, ◌∷◌, [], IfOk, pos};
 
 use cert_text::Carried;
 use coord_change::Change;
@@ -13,8 +10,8 @@ use ext_algebra::{Algebra, Ext};
 use jet_poly::Jet;
 use mono_exp::Exp;
 use poly_text::Name;
-use ring_law::{Frac, Range, Ring};
-use small_frac::{Rationals, inv};
+use ring_law::Frac;
+use small_frac::inv;
 use sqlite_items::Items;
 use std::alloc::{AllocError, Global};
 
@@ -46,24 +43,6 @@ pub fn inverse_of(c: Frac) -> Frac
     inv(c).unwrap()
 }
 
-/// `1/(m*c)`, by which the rows of the form `c*u1^m` multiply its derivative. The form `c*u1^2` has no
-/// residual variable, and its rows multiply nothing: the answer is then 1.
-///
-/// Errors: `Range` only where m is at least 3 and `m*c` has height 2^120 or more.
-pub fn derivative_inverse(m: u8, c: Frac) -> Result<Frac, Range>
-    requires order { 2 ≤ m }
-    requires valid { IsFrac c }
-    requires unit { frac_value c ≢ rational_ops.zero }
-    ensures inverse { IfOk result (λ q. 3 ≤ m → IsInverseMultiple m c q) }
-    ensures range { OnRange result (IsDerivativeHigh m (frac_value c)) }
-{
-    if m == 2 {
-        return Ok(whole_number(1));
-    }
-    let multiple = Rationals.mul(whole_number(m), c)?;
-    Ok(inverse_of(multiple))
-}
-
 /// The fraction as an element of an algebra.
 pub fn rational_element(q: Frac) -> Ext<Frac>
     ensures { result ≡ rational q }
@@ -93,11 +72,11 @@ pub fn single_term(alloc: Global, order: u8, q: Frac, e: u8) -> Result<Jet<Ext<F
     Ok(Jet::from_rising(1, order, terms))
 }
 
-/// 0 up to an order.
-pub fn zero_polynomial(alloc: Global, order: u8) -> Jet<Ext<Frac>>
-    ensures { result ≡ zero_jet order }
+/// 0 in n variables up to an order.
+pub fn empty_jet(alloc: Global, n: u8, order: u8) -> Jet<Ext<Frac>>
+    ensures { result ≡ record { n = n; order = order; terms = [] } }
 {
-    Jet::from_rising(1, order, Vec::new(alloc))
+    Jet::from_rising(n, order, Vec::new(alloc))
 }
 
 fn identity_change(alloc: Global, order: u8) -> Result<Change<Ext<Frac>>, AllocError>

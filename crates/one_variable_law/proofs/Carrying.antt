@@ -19,7 +19,8 @@ use Rattle.germ_law.specs.Germ.{RationalPolynomial, germ_of}
 use Rattle.line_jet_law.specs.LineJets.{rational_polynomial}
 use Rattle.poly_text.specs.declared.name.Name.{Name}
 use Rattle.poly_text.specs.Polynomials.{name_text}
-use Rattle.report_law.specs.Polynomials.{monomial_in, terms_in, jet_at, value_at, lifted}
+use Rattle.jet_law.specs.Canonical.{monomial_in}
+use Rattle.report_law.specs.Polynomials.{terms_in, jet_at, value_at, lifted}
 use Rattle.report_law.specs.Items.{IsShape, IsInvertibleChange, IsCarriedTo}
 use Rattle.mono_exp.specs.declared.exponent.Exp.{Exp}
 use Rattle.one_variable_law.specs.Answers.{first_exponent}

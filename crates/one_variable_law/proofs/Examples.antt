@@ -3,7 +3,7 @@ use Rattle.std.proofs.lemmas.Int.{ints}
 use Rattle.std.proofs.Common.{◌≡◌, ◌≢◌, ℕ, zero, suc, pos, ◌<◌, ◌≤◌, length, [], ◌∷◌, Some, codes, unsigned_abs, refl, sym, ap, subst, true≢false, le_of_eq, arith, get_or}
 use Rattle.ring_theory.specs.Gcd.{gcd}
 use Rattle.ring_theory.specs.Rational.{rational, rational_zero, rational_add, rational_mul, rational_neg, rational_inv, rational_ops}
-use Rattle.ext_algebra.specs.Algebra.{scalars, value_in}
+use Rattle.ext_algebra.specs.Algebra.{is_element, scalars, value_in}
 use Rattle.poly_law.specs.Exps.{degree}
 use Rattle.poly_law.specs.ExpList.{exps}
 use Rattle.line_syntax.specs.Syntax.{Line, first, factor, plain, variable}
@@ -11,7 +11,8 @@ use Rattle.line_syntax.specs.Grammar.{Spells}
 use Rattle.line_syntax.proofs.OneLine.{one_line}
 use Rattle.germ_law.specs.Germ.{IsCritical, linear_coefficient}
 use Rattle.normal_forms.specs.Monomials.{is_split, residual_terms}
-use Rattle.report_law.specs.Polynomials.{monomial_in, terms_in, jet_at, value_at, lifted, residual_part}
+use Rattle.jet_law.specs.Canonical.{monomial_in}
+use Rattle.report_law.specs.Polynomials.{terms_in, jet_at, value_at, lifted, residual_part}
 use Rattle.ring_theory.proofs.RationalLaws.{rational_scalar_laws}
 use Rattle.ring_law.specs.declared.fraction.Frac.{Frac}
 use Rattle.ring_law.specs.Fraction.{IsFrac, Represents, frac_value}
@@ -19,12 +20,12 @@ use Rattle.jet_poly.proofs.Derived.{whole_valid}
 use Rattle.poly_text.specs.declared.name.Name.{Name}
 use Rattle.cert_text.specs.declared.report.Answer.TheVariants as answers
 use Rattle.one_variable_law.specs.Plan.{IsOneVariable, germ_coefficient, IsFirstTerm}
-use Rattle.one_variable_law.specs.Rows.{IsInverseMultiple, mather_of, multiplier_of, quotient_of, row_of, unit_value}
-use Rattle.one_variable_law.specs.Answers.{named_of}
+use Rattle.one_variable_law.specs.Answers.{named_of, AreRowsOf, IsQuotientOf}
 use Rattle.one_variable_law.specs.Examples.{cubic_bytes, cubic_line, cubic_named, variable_name, CubicIsValid, FalseItemsAreRefuted}
 use Rattle.one_variable_law.proofs.Powers.{only_first}
-use Rattle.one_variable_law.proofs.Valid.{number_valid}
-use Rattle.one_variable_law.proofs.RowLaws.{rows_are, quotient_is}
+use Rattle.one_variable_law.proofs.Valid.{number_valid, fraction_valid, single_valid, zero_valid}
+use Rattle.one_variable_law.proofs.HighRows as high_rows
+use Rattle.one_variable_law.proofs.HighRows.{IsInverseMultiple, unit_value}
 use Rattle.one_variable_law.proofs.Right.{IsGood, form_good}
 
 cubic_spelled : Spells cubic_bytes cubic_line
@@ -89,18 +90,67 @@ one_inverse : Represents one (rational_inv (frac_value one))
 unfolding rational gcd rational_zero rational_inv
 one_inverse = record { valid = whole_valid 1 (omega arith); value_is = refl }
 
-its_certificate : named_of name 3 one one (mather_of 3 third) (quotient_of 3 third) ≡ cubic_named
-unfolding mather_of quotient_of row_of multiplier_of unit_value
+its_certificate : named_of name 3 one one (high_rows.high_rows 2 third) (high_rows.high_quotient 2 third) ≡ cubic_named
+unfolding unit_value
 its_certificate = refl
 
 one_apart : pos 1 ≢ pos 0
 one_apart q = cc
 
+cubic_rows : AreRowsOf 3 one (high_rows.high_rows 2 third)
+cubic_rows = record {
+  rows_are = λ name. high_rows.mather name 2 (omega arith) one third third_inverse;
+  well_formed = λ name. record {
+    few = omega arith;
+    each = (
+      record {
+        residual = omega arith;
+        monomial = refl;
+        multipliers = record { count = refl; each = (single_valid 3 2 third (omega arith) (fraction_valid third third_valid) one_apart, tt) };
+      },
+      tt,
+    );
+  };
+}
+
+cubic_quotient : IsQuotientOf 3 one (high_rows.high_quotient 2 third)
+unfolding unit_value is_element gcd
+cubic_quotient = record {
+  table_is = λ name r. high_rows.milnor name 2 (omega arith) one third third_inverse r;
+  some_in_basis = omega arith;
+  few_in_basis = omega arith;
+  basis = λ name. refl;
+  few_in_table = omega arith;
+  table = λ name. (
+    record { monomial = refl; count = refl; values = refl; multipliers = record { count = refl; each = (zero_valid 3, tt) } },
+    (
+      record { monomial = refl; count = refl; values = refl; multipliers = record { count = refl; each = (zero_valid 3, tt) } },
+      (
+        record {
+          monomial = refl;
+          count = refl;
+          values = refl;
+          multipliers = record { count = refl; each = (single_valid 3 0 third (omega arith) (fraction_valid third third_valid) one_apart, tt) };
+        },
+        (
+          record {
+            monomial = refl;
+            count = refl;
+            values = refl;
+            multipliers = record { count = refl; each = (single_valid 3 1 third (omega arith) (fraction_valid third third_valid) one_apart, tt) };
+          },
+          tt,
+        ),
+      ),
+    ),
+  );
+}
+
 cubic_good : IsGood cubic_bytes 12 (answers.Named cubic_named)
 cubic_good =
     subst (λ r. IsGood cubic_bytes 12 (answers.Named r)) its_certificate
     (form_good cubic_bytes 12 (omega arith) (omega arith) cubic_line cubic_here name (record { text = refl; valid = refl }) 3 one cubic_first (omega arith) (omega arith) (number_valid 1 (omega arith)) one_apart
-    one (mather_of 3 third) (quotient_of 3 third) one_inverse (rows_are one third 3 (omega arith) (omega arith) (λ h. third_inverse)) (quotient_is one third 3 (omega arith) (omega arith) (λ h. third_inverse)))
+    one (high_rows.high_rows 2 third) (high_rows.high_quotient 2 third) one_inverse cubic_rows cubic_quotient)
 
 pub cubic_valid : CubicIsValid
 cubic_valid = ((record { short = omega arith; are_bytes = refl }, cubic_good.well_formed), cubic_good.right.0)

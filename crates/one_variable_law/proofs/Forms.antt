@@ -21,7 +21,8 @@ use Rattle.normal_forms.specs.Families.{sum_of}
 use Rattle.poly_text.specs.declared.name.Name.{Name}
 use Rattle.cert_text.specs.declared.report.Carried as carried_type
 use Rattle.cert_text.specs.declared.report.Named as named_type
-use Rattle.report_law.specs.Polynomials.{monomial_in, terms_in, residual_part, coefficient_at}
+use Rattle.jet_law.specs.Canonical.{monomial_in}
+use Rattle.report_law.specs.Polynomials.{terms_in, residual_part, coefficient_at}
 use Rattle.report_law.specs.Items.{jet_of, residual_of, IsForm, AreUnits, IsModulusOf}
 use Rattle.one_variable_law.specs.Reports.{power, single, carried_of}
 use Rattle.one_variable_law.specs.Answers.{named_of}

@@ -1,12 +1,12 @@
--- The rows of the form c*u1^m, m at least 3: each power from u1^(m-1) on is a multiple of the derivative.
+-- Rows with one term each are true of the form c*u1^m, m at least 3: each power from u1^(m-1) on is a multiple of the derivative.
 use Rattle.std.proofs.Common.{◌≡◌, ℕ, zero, suc, ◌+◌, ◌-◌, ◌<◌, ◌≤◌, ◌⊎◌, inl, inr, cond, List, [], ◌∷◌, ◌++◌, map, flat_map, length, get_or, pos, refl, sym, ap, ap₂, subst, ◌∙◌, arith, eq-eqb, ne_eqb, lt-ltb, le-ltb}
-use Rattle.std.specs.Prelude.{nat_lt, unwrap_or, if◌then◌else◌}
+use Rattle.std.specs.Prelude.{nat_lt, unwrap_or, if◌then◌else◌, ◌==◌}
 use Rattle.std.proofs.lemmas.List.{map-append}
 use Rattle.std.proofs.lemmas.Grind.{flat_map-append}
 use Rattle.ring_theory.specs.Rational.{Rational, rational, rational_ops}
 use Rattle.ring_theory.proofs.RationalLaws.{rational_laws}
 use Rattle.ring_law.specs.declared.fraction.Frac.{Frac}
-use Rattle.ring_law.specs.Fraction.{frac_value}
+use Rattle.ring_law.specs.Fraction.{IsFrac, frac_value}
 use Rattle.ext_algebra.specs.declared.algebra.Algebra.TheVariants as algebras
 use Rattle.ext_algebra.specs.declared.algebra.Ext.{Ext}
 use Rattle.ext_algebra.specs.Algebra.{ops, scalars, value_in}
@@ -17,18 +17,29 @@ use Rattle.poly_law.specs.Sums.{unit_at, multiple}
 use Rattle.poly_law.specs.ExpList.{exps}
 use Rattle.poly_law.specs.Exps.{same}
 use Rattle.poly_law.specs.Poly.{IsQuotientTable, IsMatherRow}
-use Rattle.normal_forms.specs.Monomials.{in_eight, monomials_of, numbers_below, down_from, residual_terms}
+use Rattle.normal_forms.specs.Monomials.{in_eight, monomials_of, numbers_below, residual_terms}
 use Rattle.poly_text.specs.declared.name.Name.{Name}
 use Rattle.cert_text.specs.declared.report.Carried.{Carried}
 use Rattle.cert_text.specs.declared.report.Named as named_type
-use Rattle.report_law.specs.Polynomials.{monomial_in, terms_in, jet_at, value_at, residual_part, zero_element}
+use Rattle.jet_law.specs.Canonical.{monomial_in}
+use Rattle.report_law.specs.Polynomials.{terms_in, jet_at, value_at, residual_part, zero_element}
 use Rattle.report_law.specs.Items.{residual_of, row_of, basis_of, values_of_row, multipliers_of_row, AreMatherRows, IsMilnorTable}
-use Rattle.one_variable_law.specs.Reports.{power, single, zero_jet, carried_of}
-use Rattle.one_variable_law.specs.Rows.{IsInverseMultiple, listed, unit_value}
+use Rattle.one_variable_law.specs.Reports as reports
+use Rattle.one_variable_law.specs.Reports.{whole, power, single, zero_jet, carried_of}
 use Rattle.one_variable_law.proofs.Powers.{x_to, row_adds_up, row_starts, power_table}
-use Rattle.one_variable_law.proofs.Listed.{listed_at, length_listed, find_listed, listed_last}
+use Rattle.one_variable_law.proofs.Listing.{powers_of}
+use Rattle.one_variable_law.proofs.Listed.{listed, listed_at, length_listed, find_listed, listed_last}
 use Rattle.one_variable_law.proofs.Leading.{rational_term}
 use Rattle.one_variable_law.proofs.Carrying.{report_power}
+
+-- q is a valid fraction, and q times the m-fold of c is 1
+pub record IsInverseMultiple (m : ℕ) (c q : Frac) : Type 0 where
+  pub valid : IsFrac q
+  pub inverse : rational_ops.mul (frac_value q) (multiple rational_ops m (frac_value c)) ≡ rational_ops.one
+
+-- 1 at this place, and 0 elsewhere
+unfoldable pub unit_value : ℕ → ℕ → Ext Frac
+unit_value place i = reports.rational (whole (if i == place then pos 1 else pos 0))
 
 -- the row of x^e in the table of v x^(s+1), q being 1 / ((s + 1) v)
 abbrev pub table_row : ℕ → Frac → ℕ → TableRow (Ext Frac)
@@ -45,20 +56,6 @@ high_rows s q = record { monomial = power (suc s + 1); multipliers = single (suc
 -- the basis 1, .., x^(s-1) and its table
 abbrev pub high_quotient : ℕ → Frac → JetQuotient (Ext Frac)
 high_quotient s q = record { basis = listed power 0 s; table = listed (table_row s q) 0 (suc s + 1) }
-
--- ---- lists of monomials in one variable
-
-none_left : (d n : ℕ) → n < d → flat_map (λ e. map (λ m. e ∷ m) (monomials_of 0 (d - e))) (down_from n) ≡ []
-none_left d zero h = ap (λ k. map (λ m. 0 ∷ m) (monomials_of 0 k) ++ []) (let k : d - 0 ≡ suc (d - 1) = omega arith in k)
-none_left d (suc n) h =
-    ap (λ k. map (λ m. suc n ∷ m) (monomials_of 0 k) ++ flat_map (λ e. map (λ m. e ∷ m) (monomials_of 0 (d - e))) (down_from n)) (let k : d - suc n ≡ suc (d - suc n - 1) = omega arith in k)
-    ∙ none_left d n (omega arith)
-
-pub powers_of : (d : ℕ) → monomials_of 1 d ≡ (d ∷ []) ∷ []
-powers_of zero = refl
-powers_of (suc n) =
-    ap (λ k. map (λ m. suc n ∷ m) (monomials_of 0 k) ++ flat_map (λ e. map (λ m. e ∷ m) (monomials_of 0 (suc n - e))) (down_from n)) (let k : suc n - suc n ≡ 0 = omega arith in k)
-    ∙ ap (λ l. (suc n ∷ []) ∷ l) (none_left (suc n) n (omega arith))
 
 -- rows for the powers of x in order are rows for the monomials of degree below k
 pub powers_below : (row : ℕ → TableRow (Ext Frac)) → ((e : ℕ) → (row e).monomial ≡ power e) → (k : ℕ) → map (λ row. row.monomial) (listed row 0 k) ≡ map in_eight (flat_map (monomials_of 1) (numbers_below k))

@@ -1,18 +1,14 @@
--- Inverses of fractions: 1/(m c) times the m-fold of c is 1.
-use Rattle.std.proofs.Common.{◌≡◌, ◌≢◌, ℕ, ◌<◌, ◌≤◌, pos, unsigned_abs, sym, ap, ◌∙◌, arith}
+-- Fractions that are not 0, and their inverses.
+use Rattle.std.proofs.Common.{◌≡◌, ◌≢◌, ℕ, ◌<◌, ◌≤◌, pos, unsigned_abs, ap, ◌∙◌, arith}
 use Rattle.ring_theory.specs.Rational.{Rational, rational_ops, rational_inv}
-use Rattle.ring_theory.specs.Height.{rational_scalars}
-use Rattle.ring_theory.proofs.RationalLaws.{rational_laws, rational_inverts, rational_scalar_laws}
+use Rattle.ring_theory.proofs.RationalLaws.{rational_laws, rational_inverts}
 use Rattle.ring_law.specs.declared.fraction.Frac.{Frac}
 use Rattle.ring_law.specs.Fraction.{IsFrac, Represents, frac_value}
 use Rattle.ring_law.proofs.FractionLaws.{nonzero_value, zero_value}
-use Rattle.poly_law.specs.Sums.{multiple}
-use Rattle.poly_law.proofs.Sums as sums
-use Rattle.jet_poly.proofs.Derived.{whole_valid, whole-mul}
+use Rattle.jet_poly.proofs.Derived.{whole_valid}
 use Rattle.germ_law.specs.Germ.{whole}
 use Rattle.line_jet_law.proofs.TermByTerm.{multiple_zero}
 use Rattle.one_variable_law.specs.Reports as reports
-use Rattle.one_variable_law.specs.Rows.{IsInverseMultiple}
 
 -- c times 1/c is 1
 pub inverse_once : (c i : Frac) → frac_value c ≢ rational_ops.zero → Represents i (rational_inv (frac_value c)) → rational_ops.mul (frac_value c) (frac_value i) ≡ rational_ops.one
@@ -26,21 +22,6 @@ pub product_unit : (m : ℕ) (v : Rational) → 1 ≤ m → m < 256 → v ≢ ra
 product_unit m v low small unit none =
     unit (multiple_zero (whole m) (rational_inv (whole m)) v
     (rational_laws.mul_comm (rational_inv (whole m)) (whole m) ∙ rational_inverts.mul_inverse (whole m) (whole_unit m low small)) none)
-
--- the inverse of the product of m and c
-pub inverse_multiple : (m : ℕ) (c q : Frac) → rational_ops.mul (whole m) (frac_value c) ≢ rational_ops.zero → Represents q (rational_inv (rational_ops.mul (whole m) (frac_value c))) → IsInverseMultiple m c q
-inverse_multiple m c q unit r =
-    let p : Rational = rational_ops.mul (whole m) (frac_value c) in
-    record {
-      valid = r.valid;
-      inverse = ap (rational_ops.mul (frac_value q)) (sym (whole-mul rational_scalars rational_scalar_laws m (frac_value c))) ∙ ap (λ z. rational_ops.mul z p) r.value_is
-          ∙ rational_laws.mul_comm (rational_inv p) p ∙ rational_inverts.mul_inverse p unit;
-    }
-
--- 1/(m c) is not 0
-pub inverse_unit : (m : ℕ) (c q : Frac) → IsInverseMultiple m c q → q.num ≢ pos 0
-inverse_unit m c q h none =
-    rational_scalar_laws.nontrivial (sym h.inverse ∙ ap (λ z. rational_ops.mul z (multiple rational_ops m (frac_value c))) (zero_value q h.valid none) ∙ sums.zero_mul rational_ops rational_laws (multiple rational_ops m (frac_value c)))
 
 -- a fraction whose value is not 0
 pub unit_numerator : (c : Frac) → IsFrac c → frac_value c ≢ rational_ops.zero → c.num ≢ pos 0

@@ -1,5 +1,5 @@
 pub mod Bools
-pub mod Names
+pub mod Listing
 pub mod Powers
 pub mod Leading
 pub mod Carrying
@@ -8,8 +8,10 @@ pub mod Listed
 pub mod Limits
 pub mod Valid
 pub mod Forms
+pub mod NoVariables
+pub mod Answered
+pub mod Residual
+pub mod Calls
 pub mod HighRows
-pub mod LowRows
-pub mod RowLaws
 pub mod Right
 pub mod Examples

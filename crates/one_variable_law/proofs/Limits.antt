@@ -9,7 +9,8 @@ use Rattle.poly_law.specs.ExpList.{exps}
 use Rattle.poly_law.specs.Poly.{MatherFails}
 use Rattle.normal_forms.specs.Monomials.{is_split, residual_terms}
 use Rattle.poly_text.specs.declared.name.Name.{Name}
-use Rattle.report_law.specs.Polynomials.{monomial_in, terms_in, residual_part}
+use Rattle.jet_law.specs.Canonical.{monomial_in}
+use Rattle.report_law.specs.Polynomials.{terms_in, residual_part}
 use Rattle.report_law.specs.Items.{IsLimitFunctional}
 use Rattle.one_variable_law.specs.Reports.{power, limit_of}
 use Rattle.one_variable_law.proofs.Powers.{x_to, degree_is, zero_on_zero, one_on_itself}

@@ -1,9 +1,11 @@
 -- The values of a function at numbers in a row.
-use Rattle.std.proofs.Common.{◌≡◌, ℕ, zero, suc, ◌+◌, ◌<◌, ◌≤◌, Bool, true, false, cond, [], ◌∷◌, ◌++◌, length, get_or, eqb, eqb-true, eq-eqb, Some, refl, sym, ap, ◌∙◌, arith, true≢false}
+use Rattle.std.proofs.Common.{◌≡◌, ℕ, zero, suc, ◌+◌, ◌<◌, ◌≤◌, Bool, true, false, cond, List, [], ◌∷◌, ◌++◌, length, get_or, eqb, eqb-true, eq-eqb, Some, refl, sym, ap, ◌∙◌, arith, true≢false}
 use Rattle.std.specs.Prelude.{find}
-use Rattle.std.specs.List.{list_all, AllByRecursion}
-use Rattle.one_variable_law.specs.Rows.{listed}
-use Rattle.one_variable_law.proofs.Bools.{and_both}
+
+-- what f gives at so many numbers from this one on
+abbrev pub listed : {A : Type 0} → (ℕ → A) → ℕ → ℕ → List A
+listed f i zero = []
+listed f i (suc count) = f i ∷ listed f (i + 1) count
 
 pub listed_at : {A : Type 0} (f : ℕ → A) (d : A) (i n j : ℕ) → j < n → get_or (listed f i n) j d ≡ f (i + j)
 listed_at f d i zero j h = absurd (omega arith)
@@ -21,14 +23,6 @@ find_listed f p e is i (suc n) h k = by_test (eqb i e) refl (λ apart. find_list
     by_test : (b : Bool) → eqb i e ≡ b → ((i ≡ e → ⊥) → find p (listed f (i + 1) n) ≡ Some (f e)) → find p (listed f i (suc n)) ≡ Some (f e)
     by_test true q later = ap (λ b. cond b (Some (f i)) (find p (listed f (i + 1) n))) (is i ∙ q) ∙ ap (λ j. Some (f j)) (eqb-true i e q)
     by_test false q later = ap (λ b. cond b (Some (f i)) (find p (listed f (i + 1) n))) (is i ∙ q) ∙ later (λ s. true≢false (sym (eq-eqb i e s) ∙ q))
-
-pub all_listed : {A : Type 0} (f : ℕ → A) (P : A → Type 0) (i n : ℕ) → ((j : ℕ) → i ≤ j → j < i + n → P (f j)) → AllByRecursion P (listed f i n)
-all_listed f P i zero h = tt
-all_listed f P i (suc n) h = (h i (omega arith) (omega arith), all_listed f P (i + 1) n (λ j a b. h j (omega arith) (omega arith)))
-
-pub list_all_listed : {A : Type 0} (f : ℕ → A) (p : A → Bool) (i n : ℕ) → ((j : ℕ) → i ≤ j → j < i + n → p (f j) ≡ true) → list_all p (listed f i n) ≡ true
-list_all_listed f p i zero h = refl
-list_all_listed f p i (suc n) h = and_both (p (f i)) (list_all p (listed f (i + 1) n)) (h i (omega arith) (omega arith)) (list_all_listed f p (i + 1) n (λ j a b. h j (omega arith) (omega arith)))
 
 pub listed_last : {A : Type 0} (f : ℕ → A) (i n : ℕ) → listed f i (suc n) ≡ listed f i n ++ f (i + n) ∷ []
 listed_last f i zero = ap (λ j. f j ∷ []) (let k : i ≡ i + 0 = omega arith in k)

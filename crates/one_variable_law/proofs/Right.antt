@@ -43,7 +43,7 @@ use Rattle.one_variable_law.specs.Reports.{single, zero_jet, limit_of, corank_of
 use Rattle.one_variable_law.specs.Plan.{IsOneVariable, germ_coefficient, IsFirstTerm, IsFormHigh, IsPlannedAnswer}
 use Rattle.one_variable_law.specs.Answers.{named_of, IsNamedOf, IsNamedAnswer, IsAnswerByTerms, IsAnswerByNames, IsAnswerToGerm, HasNameableFirst, IsReadGerm, AreRowsOf, IsQuotientOf, first_exponent}
 use Rattle.one_variable_law.proofs.Bools.{and_both}
-use Rattle.one_variable_law.proofs.Names.{line_names, name_text-name_of, name_valid}
+use Rattle.report_law.proofs.Names.{line_names, name_text-name_of, name_valid}
 use Rattle.one_variable_law.proofs.Powers.{x_to, variable_is, is_power, coefficient_first-other}
 use Rattle.one_variable_law.proofs.Leading.{coefficient_of, HasFirst, has_first}
 use Rattle.one_variable_law.proofs.Carrying.{IsGermBy, germ_by, shape, invertible, form_carried, zero_carried, first_term}

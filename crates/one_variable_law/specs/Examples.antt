@@ -18,7 +18,8 @@ use Rattle.cert_text.specs.declared.report.Answer.TheVariants as answers
 use Rattle.cert_text.specs.declared.report.Report.{Report}
 use Rattle.cert_text.specs.declared.report.Report.TheVariants as reports
 use Rattle.cert_text.specs.WellFormed.{IsWellFormed}
-use Rattle.report_law.specs.Valid.{IsValid, NamedItem, LimitItem, OutsideItem, germ, shape, inverse, carry, form, units, modulus, mather, milnor, functional, pattern}
+use Rattle.report_law.specs.declared.item.Item.TheVariants as items
+use Rattle.report_law.specs.Valid.{IsValid, NamedItem, LimitItem, OutsideItem}
 
 -- n / d
 abbrev pub element : ℤ → ℕ → Ext Frac
@@ -89,33 +90,33 @@ limit_with v = record {
 -- no item is true of its false certificate
 pub record FalseItemsAreRefuted : Type 0 where
   -- of `[x] x`, which is not critical
-  pub germ_of_x : (l : Line) → NamedItem (codes "[x] x") l cubic_named germ → ⊥
+  pub germ_of_x : (l : Line) → NamedItem (codes "[x] x") l cubic_named items.Germ → ⊥
   -- with the name y
-  pub shape_of_y : NamedItem cubic_bytes cubic_line (record cubic_named { carried = record cubic_carried { names = variable_name 121 ∷ [] } }) shape → ⊥
+  pub shape_of_y : NamedItem cubic_bytes cubic_line (record cubic_named { carried = record cubic_carried { names = variable_name 121 ∷ [] } }) items.Shape → ⊥
   -- with the matrix 2 beside the identity
-  pub wrong_inverse : NamedItem cubic_bytes cubic_line (record cubic_named { carried = record cubic_carried { change = record cubic_carried.change { inverse = element (pos 2) 1 ∷ [] } } }) inverse → ⊥
+  pub wrong_inverse : NamedItem cubic_bytes cubic_line (record cubic_named { carried = record cubic_carried { change = record cubic_carried.change { inverse = element (pos 2) 1 ∷ [] } } }) items.Inverse → ⊥
   -- with the singular change x = 0
-  pub singular : NamedItem cubic_bytes cubic_line (record cubic_named { carried = record cubic_carried { change = record cubic_carried.change { parts = jet 3 [] ∷ [] } } }) inverse → ⊥
+  pub singular : NamedItem cubic_bytes cubic_line (record cubic_named { carried = record cubic_carried { change = record cubic_carried.change { parts = jet 3 [] ∷ [] } } }) items.Inverse → ⊥
   -- with the form 2 u1^3
-  pub wrong_form : NamedItem cubic_bytes cubic_line (record cubic_named { carried = record cubic_carried { jet = jet 3 ((u1_to 3, element (pos 2) 1) ∷ []) } }) carry → ⊥
+  pub wrong_form : NamedItem cubic_bytes cubic_line (record cubic_named { carried = record cubic_carried { jet = jet 3 ((u1_to 3, element (pos 2) 1) ∷ []) } }) items.Carry → ⊥
   -- called A3
-  pub wrong_name : NamedItem cubic_bytes cubic_line (record cubic_named { family = families.A 3 }) form → ⊥
+  pub wrong_name : NamedItem cubic_bytes cubic_line (record cubic_named { family = families.A 3 }) items.Form → ⊥
   -- with the unit 1 beside 1/2
-  pub wrong_unit : NamedItem cubic_bytes cubic_line (record cubic_named { units = (element (pos 1) 1, element (pos 1) 2) ∷ [] }) units → ⊥
+  pub wrong_unit : NamedItem cubic_bytes cubic_line (record cubic_named { units = (element (pos 1) 1, element (pos 1) 2) ∷ [] }) items.Units → ⊥
   -- with the modulus line of a form
-  pub wrong_modulus : NamedItem cubic_bytes cubic_line (record cubic_named { modulus = moduli.Form }) modulus → ⊥
+  pub wrong_modulus : NamedItem cubic_bytes cubic_line (record cubic_named { modulus = moduli.Form }) items.Modulus → ⊥
   -- without the row of u1^4
-  pub no_row : NamedItem cubic_bytes cubic_line (record cubic_named { mather = [] }) mather → ⊥
+  pub no_row : NamedItem cubic_bytes cubic_line (record cubic_named { mather = [] }) items.Mather → ⊥
   -- at order 2 with the multiplier u1/3, of degree 1
   pub low_multiplier : NamedItem cubic_bytes cubic_line (record cubic_named {
     carried = record cubic_carried { order = 2 };
     mather = record { monomial = u1_to 3; multipliers = jet 2 ((u1_to 1, element (pos 1) 3) ∷ []) ∷ [] } ∷ [];
-  }) mather → ⊥
+  }) items.Mather → ⊥
   -- with the Milnor number 3
-  pub wrong_number : NamedItem cubic_bytes cubic_line (record cubic_named { milnor = 3 }) milnor → ⊥
+  pub wrong_number : NamedItem cubic_bytes cubic_line (record cubic_named { milnor = 3 }) items.Milnor → ⊥
   -- with the value 2 at u1^13
-  pub wrong_functional : LimitItem cubic_bytes cubic_line (limit_with (element (pos 2) 1)) functional → ⊥
+  pub wrong_functional : LimitItem cubic_bytes cubic_line (limit_with (element (pos 2) 1)) items.Functional → ⊥
   -- in the pattern N, of corank 2
-  pub wrong_pattern : OutsideItem cubic_bytes cubic_line (record { pattern = patterns.N; carried = cubic_carried }) pattern → ⊥
+  pub wrong_pattern : OutsideItem cubic_bytes cubic_line (record { pattern = patterns.N; carried = cubic_carried }) items.Pattern → ⊥
   -- too long with 5 bytes
   pub not_long : IsValid (reports.Long 5) → ⊥

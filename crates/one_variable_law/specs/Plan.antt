@@ -7,7 +7,9 @@ use Rattle.cert_text.specs.declared.report.Phase.TheVariants as phases
 use Rattle.cert_text.specs.declared.report.Phase.{Phase}
 use Rattle.cert_text.specs.declared.report.Report.TheVariants as reports
 use Rattle.cert_text.specs.declared.report.Report.{Report}
-use Rattle.germ_law.specs.Germ.{germ_of, whole, IsCritical}
+use Rattle.determinacy.specs.Tests.{IsTestHigh}
+use Rattle.germ_law.specs.Germ.{germ_of, IsCritical}
+use Rattle.jet_quotient.specs.Quotients.{IsQuotientHigh}
 use Rattle.report_law.specs.Right.{IsHighLine, IsManyVariables, IsRight}
 use Rattle.line_syntax.specs.Syntax.{Line, names_of}
 use Rattle.normal_forms.specs.declared.family.Family.TheVariants as families
@@ -15,12 +17,13 @@ use Rattle.normal_forms.specs.declared.modulus_line.ModulusLine.TheVariants as m
 use Rattle.one_variable_law.specs.Reports.{form_of, limit_of}
 use Rattle.poly_law.specs.ExpList.{exps, exp_of}
 use Rattle.poly_law.specs.Poly.{coefficient}
+use Rattle.poly_law.specs.Polynomials.{Polynomial}
 use Rattle.poly_text.specs.declared.name.Name.{Name}
 use Rattle.ring_law.specs.Fraction.{frac_value}
 use Rattle.ring_law.specs.declared.fraction.Frac.{Frac}
-use Rattle.ring_theory.specs.Height.{product_height}
+use Rattle.ring_theory.specs.Height.{rational_scalars}
 use Rattle.ring_theory.specs.Rational.{Rational, rational_ops}
-use Rattle.std.specs.Prelude.{◌≡◌, ◌≢◌, ℕ, ◌-◌, ◌^◌, ◌<◌, ◌≤◌, List, length}
+use Rattle.std.specs.Prelude.{◌≡◌, ◌≢◌, ℕ, ◌-◌, ◌<◌, ◌≤◌, List, [], ◌∷◌, length}
 
 -- the bytes are a critical line in one variable
 pub record IsOneVariable (bytes : List ℕ) (l : Line) : Type 0 where
@@ -37,16 +40,24 @@ pub record IsFirstTerm (l : Line) (m : ℕ) (v : Rational) : Type 0 where
   pub unit : v ≢ rational_ops.zero
   pub least : (w : ℕ) → w < m → germ_coefficient l w ≡ rational_ops.zero
 
--- v*x^m has a residual variable, and the coefficient m*v of its derivative has height at least 2^120
-pub record IsDerivativeHigh (m : ℕ) (v : Rational) : Type 0 where
-  pub residual : 3 ≤ m
-  pub is_high : 2 ^ 120 ≤ product_height (whole m) v
+-- v*x^m as a polynomial in x
+abbrev pub power_term : ℕ → Rational → Polynomial 1 Rational
+power_term m v = (exp_of 1 (λ i. m), v) ∷ []
 
--- a number of the certificate of v*x^m is too large in this phase: the rows of Mather's test and those of the quotient are multiples of
--- the derivative
+-- v*x^m has a residual variable, and Mather's test at m is high
+pub record IsPowerTestHigh (m : ℕ) (v : Rational) : Type 0 where
+  pub residual : 3 ≤ m
+  pub is_high : IsTestHigh 1 rational_scalars m (power_term m v)
+
+-- v*x^m has a residual variable, and the quotient at m is high
+pub record IsPowerQuotientHigh (m : ℕ) (v : Rational) : Type 0 where
+  pub residual : 3 ≤ m
+  pub is_high : IsQuotientHigh 1 rational_scalars m (power_term m v)
+
+-- a number of the certificate of v*x^m is too large in this phase
 abbrev pub IsFormHigh : Phase → ℕ → Rational → Type 0
-IsFormHigh phases.Mather m v = IsDerivativeHigh m v
-IsFormHigh phases.Milnor m v = IsDerivativeHigh m v
+IsFormHigh phases.Mather m v = IsPowerTestHigh m v
+IsFormHigh phases.Milnor m v = IsPowerQuotientHigh m v
 IsFormHigh phases.Line m v = ⊥
 IsFormHigh phases.Hessian m v = ⊥
 IsFormHigh phases.Split m v = ⊥

@@ -42,6 +42,10 @@ carried_of name order corank jet = record { names = name ∷ []; algebra = algeb
 abbrev pub corank_of : ℕ → ℕ
 corank_of m = if m == 2 then 0 else 1
 
+-- the residual part of c*u1^m up to the order m, in as many variables as the corank
+abbrev pub residual_jet : ℕ → Frac → JetTerms (Ext Frac)
+residual_jet m c = record { n = corank_of m; order = m; terms = if m == 2 then [] else (power m, rational c) ∷ [] }
+
 -- the form c*u1^m at order m
 abbrev pub form_of : Name → ℕ → Frac → Carried
 form_of name m c = carried_of name m (corank_of m) (single m c m)

@@ -19,7 +19,8 @@ use Rattle.normal_forms.specs.Monomials.{is_split}
 use Rattle.poly_text.specs.Polynomials.{name_text}
 use Rattle.cert_text.specs.declared.report.Carried.{Carried}
 use Rattle.cert_text.specs.WellFormed.{is_monomial_in, is_zero_element, is_term_of, IsJetOf}
-use Rattle.report_law.specs.Polynomials.{monomial_in, terms_in, jet_at, value_at, residual_part}
+use Rattle.jet_law.specs.Canonical.{monomial_in}
+use Rattle.report_law.specs.Polynomials.{terms_in, jet_at, value_at, residual_part}
 use Rattle.report_law.specs.Items.{ring_of, germ_in}
 use Rattle.report_law.specs.Meaning.{LimitHasNoRows}
 use Rattle.report_law.proofs.Splitting.{is_split-is}

@@ -29,7 +29,8 @@ use Rattle.normal_forms.specs.Families.{kind_of}
 use Rattle.normal_forms.specs.Units.{unit_values}
 use Rattle.cert_text.specs.declared.report.Carried.{Carried}
 use Rattle.cert_text.specs.declared.report.Named as named_type
-use Rattle.report_law.specs.Polynomials.{monomial_in, jet_at, coefficient_at}
+use Rattle.jet_law.specs.Canonical.{monomial_in}
+use Rattle.report_law.specs.Polynomials.{jet_at, coefficient_at}
 use Rattle.report_law.specs.Items.{variables_of, ring_of, jet_of, residual_of, coefficients_of, squares_of, AreUnits, IsRowOf, AreMatherRows}
 use Rattle.report_law.specs.Meaning.{NamedHasRows}
 use Rattle.report_law.proofs.AllMonomials.{has_degree, degree_of_entries}

@@ -17,19 +17,21 @@ use Rattle.mono_exp.proofs.Lists.{sum-cons}
 use Rattle.line_syntax.proofs.Bools.{and_left, and_right, or_other}
 use Rattle.normal_forms.specs.Monomials.{is_residual, is_square, is_split, residual_terms, monomials_in, is_one_of, square_of, square_variables}
 use Rattle.cert_text.specs.WellFormed.{is_monomial_in}
-use Rattle.report_law.specs.Polynomials.{monomial_in, terms_in, residual_part}
+use Rattle.jet_law.specs.Canonical.{monomial_in}
+use Rattle.report_law.specs.Polynomials.{terms_in, residual_part}
 
 abbrev is_zero : ℕ → Bool
 is_zero e = e == 0
 
-zero_past : (c : ℕ) (m : List ℕ) → list_all is_zero (drop c m) ≡ true → (i : ℕ) → c ≤ i → get_or m i 0 ≡ 0
+-- an exponent past the first c is 0, where all of these are
+pub zero_past : (c : ℕ) (m : List ℕ) → list_all is_zero (drop c m) ≡ true → (i : ℕ) → c ≤ i → get_or m i 0 ≡ 0
 zero_past c [] e i h = refl
 zero_past zero (z ∷ zs) e zero h = eqb-true z 0 (and_left (is_zero z) (list_all is_zero zs) e)
 zero_past zero (z ∷ zs) e (suc i) h = zero_past zero zs (and_right (is_zero z) (list_all is_zero zs) e) i (zero-le)
 zero_past (suc c) (z ∷ zs) e zero h = absurd (omega arith)
 zero_past (suc c) (z ∷ zs) e (suc i) h = zero_past c zs e i (omega arith)
 
-and_both : (a b : Bool) → a ≡ true → b ≡ true → (a && b) ≡ true
+pub and_both : (a b : Bool) → a ≡ true → b ≡ true → (a && b) ≡ true
 and_both true b e f = f
 and_both false b e f = e
 

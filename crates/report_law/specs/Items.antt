@@ -28,7 +28,8 @@ use Rattle.cert_text.specs.declared.report.Carried.{Carried}
 use Rattle.cert_text.specs.declared.report.Named as named_type
 use Rattle.cert_text.specs.declared.report.Limit as limit_type
 use Rattle.cert_text.specs.declared.report.Unresolved as unresolved_type
-use Rattle.report_law.specs.Polynomials.{PolynomialOver, monomial_in, terms_in, jet_at, value_at, lifted, residual_part, coefficient_at}
+use Rattle.jet_law.specs.Canonical.{monomial_in}
+use Rattle.report_law.specs.Polynomials.{PolynomialOver, terms_in, jet_at, value_at, lifted, residual_part, coefficient_at}
 
 -- ---- refusals
 

@@ -1,20 +1,17 @@
 -- The jets, elements and changes of a report as polynomials and numbers over the ring of its algebra.
-use Rattle.std.specs.Prelude.{ℕ, pos, List, [], map, get_or, slice_index_or}
+use Rattle.std.specs.Prelude.{ℕ, pos, List, [], map, slice_index_or}
 use Rattle.ring_theory.specs.Rational.{Rational}
 use Rattle.ring_law.specs.declared.fraction.Frac.{Frac}
 use Rattle.ext_algebra.specs.declared.algebra.Algebra.{Algebra}
 use Rattle.ext_algebra.specs.declared.algebra.Ext.{Ext}
 use Rattle.ext_algebra.specs.Algebra.{Value, ops, scalars, value_in}
 use Rattle.mono_exp.specs.declared.exponent.Exp.{Exp}
+use Rattle.jet_law.specs.Canonical.{monomial_in}
 use Rattle.jet_poly.specs.JetTerms.{JetTerms}
 use Rattle.poly_law.specs.Poly.{coefficient}
-use Rattle.poly_law.specs.ExpList.{ExpList, exps, exp_of}
+use Rattle.poly_law.specs.ExpList.{exps}
 use Rattle.poly_law.specs.Polynomials.{Polynomial}
 use Rattle.normal_forms.specs.Monomials.{residual_terms}
-
--- a list of exponents as a monomial in n variables
-abbrev pub monomial_in : (n : ℕ) → List ℕ → ExpList n
-monomial_in n e = exp_of n (λ i. get_or e i 0)
 
 -- polynomials in n variables over the ring of an algebra
 abbrev pub PolynomialOver : ℕ → Algebra → Type 0

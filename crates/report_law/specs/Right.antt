@@ -1,5 +1,5 @@
--- Which report is right for a line and an order limit, and what a run writes.
-use Rattle.std.specs.Prelude.{◌≡◌, ℕ, ◌≤◌, ◌<◌, IsTrue, List, ◌++◌, length, take, min, flat_map, nat_le, if◌then◌else◌}
+-- Which report is right for a line and an order limit.
+use Rattle.std.specs.Prelude.{◌≡◌, ℕ, ◌≤◌, ◌<◌, IsTrue, List, length}
 use Rattle.std.specs.List.{AllZip}
 use Rattle.ring_theory.specs.Rational.{Rational, rational_ops}
 use Rattle.ring_theory.specs.Ring.{RingOps}
@@ -11,6 +11,7 @@ use Rattle.line_syntax.specs.Syntax.{Line, names_of}
 use Rattle.line_syntax.specs.Grammar.{Spells, has_small_literals}
 use Rattle.germ_law.specs.Germ.{IsCritical, line_limit}
 use Rattle.germ_law.specs.Reading.{IsReadingHigh}
+use Rattle.line_jet_law.specs.LineJets.{order_limit}
 use Rattle.cert_text.specs.declared.report.Carried.{Carried}
 use Rattle.cert_text.specs.declared.report.Phase.TheVariants as phases
 use Rattle.cert_text.specs.declared.report.Phase.{Phase}
@@ -18,14 +19,9 @@ use Rattle.cert_text.specs.declared.report.Answer.{Answer}
 use Rattle.cert_text.specs.declared.report.Answer.TheVariants as answers
 use Rattle.cert_text.specs.declared.report.Report.{Report}
 use Rattle.cert_text.specs.declared.report.Report.TheVariants as reports
-use Rattle.cert_text.specs.Text.{report_text}
 use Rattle.report_law.specs.Items.{IsSyntaxRefusal, IsLiteralRefusal}
 use Rattle.report_law.specs.Valid.{IsValidAnswer}
 use Rattle.cert_text.specs.WellFormed.{IsWellFormed}
-
--- the highest order that is tried in n variables
-abbrev pub order_limit : ℕ → ℕ → ℕ
-order_limit limit n = if nat_le n 4 then limit else min limit 12
 
 abbrev q : RingOps Rational
 q = rational_ops
@@ -102,12 +98,3 @@ pub record IsRight (IsUnbuilt : List ℕ → Type 0) (limit : ℕ) (bytes : List
 -- reports, each right for its line, one for each line in order
 abbrev pub AreRight : (List ℕ → Type 0) → ℕ → List (List ℕ) → List Report → Type 0
 AreRight IsUnbuilt limit lines reports = AllZip (IsRight IsUnbuilt limit) lines reports
-
--- the bytes are the texts of right reports, one for each of the lines, in order
-abbrev pub IsClassification : (List ℕ → Type 0) → ℕ → List (List ℕ) → List ℕ → Type 0
-IsClassification IsUnbuilt limit lines written = (reports : List Report) × AreRight IsUnbuilt limit lines reports × (written ≡ flat_map report_text reports)
-
--- the bytes are a front of the texts of right reports for the first n lines, for some n
-abbrev pub IsClassificationFront : (List ℕ → Type 0) → ℕ → List (List ℕ) → List ℕ → Type 0
-IsClassificationFront IsUnbuilt limit lines written =
-    (n : ℕ) × (reports : List Report) × (rest : List ℕ) × AreRight IsUnbuilt limit (take n lines) reports × (written ++ rest ≡ flat_map report_text reports)

@@ -13,95 +13,82 @@ use Rattle.cert_text.specs.declared.report.Answer.{Answer}
 use Rattle.cert_text.specs.declared.report.Answer.TheVariants as answers
 use Rattle.cert_text.specs.declared.report.Report.{Report}
 use Rattle.cert_text.specs.declared.report.Report.TheVariants as reports
+use Rattle.report_law.specs.declared.item.Item.{Item}
+use Rattle.report_law.specs.declared.item.Item.TheVariants as items
 use Rattle.report_law.specs.Items.{IsSyntaxRefusal, IsLiteralRefusal, IsNotCritical, IsShape, IsInvertibleChange, IsCarriedTo, IsForm, AreUnits, IsModulusOf, AreMatherRows, IsMilnorTable, IsInPattern, IsLimitFunctional, IsDetermined}
-
--- the items of reports
-pub data Item : Type 0 where
-  refusal : Item
-  germ : Item
-  shape : Item
-  inverse : Item
-  carry : Item
-  form : Item
-  units : Item
-  modulus : Item
-  mather : Item
-  milnor : Item
-  functional : Item
-  pattern : Item
 
 -- the item is true of a named report of these bytes, where l is the line that they spell
 abbrev pub NamedItem : List ℕ → Line → named_type.Named → Item → Type 0
-NamedItem bytes l r germ = IsCritical bytes l
-NamedItem bytes l r shape = IsShape l r.carried × (r.carried.corank ≤ 3)
-NamedItem bytes l r inverse = IsInvertibleChange r.carried
-NamedItem bytes l r carry = IsCarriedTo l r.carried
-NamedItem bytes l r form = IsForm r.family r.carried
-NamedItem bytes l r units = AreUnits r
-NamedItem bytes l r modulus = IsModulusOf r
-NamedItem bytes l r mather = AreMatherRows r.carried r.mather
-NamedItem bytes l r milnor = IsMilnorTable r
-NamedItem bytes l r refusal = ⊥
-NamedItem bytes l r functional = ⊥
-NamedItem bytes l r pattern = ⊥
+NamedItem bytes l r items.Germ = IsCritical bytes l
+NamedItem bytes l r items.Shape = IsShape l r.carried × (r.carried.corank ≤ 3)
+NamedItem bytes l r items.Inverse = IsInvertibleChange r.carried
+NamedItem bytes l r items.Carry = IsCarriedTo l r.carried
+NamedItem bytes l r items.Form = IsForm r.family r.carried
+NamedItem bytes l r items.Units = AreUnits r
+NamedItem bytes l r items.Modulus = IsModulusOf r
+NamedItem bytes l r items.Mather = AreMatherRows r.carried r.mather
+NamedItem bytes l r items.Milnor = IsMilnorTable r
+NamedItem bytes l r items.Refusal = ⊥
+NamedItem bytes l r items.Functional = ⊥
+NamedItem bytes l r items.Pattern = ⊥
 
 -- the items of a named report, in order
 abbrev pub named_items : List Item
-named_items = germ ∷ shape ∷ inverse ∷ carry ∷ form ∷ units ∷ modulus ∷ mather ∷ milnor ∷ []
+named_items = items.Germ ∷ items.Shape ∷ items.Inverse ∷ items.Carry ∷ items.Form ∷ items.Units ∷ items.Modulus ∷ items.Mather ∷ items.Milnor ∷ []
 
 -- the item is true of an outside report
 abbrev pub OutsideItem : List ℕ → Line → outside_type.Outside → Item → Type 0
-OutsideItem bytes l r germ = IsCritical bytes l
-OutsideItem bytes l r shape = IsShape l r.carried × (r.carried.order ≡ order_of r.pattern)
-OutsideItem bytes l r inverse = IsInvertibleChange r.carried
-OutsideItem bytes l r carry = IsCarriedTo l r.carried
-OutsideItem bytes l r pattern = IsInPattern r.pattern r.carried
-OutsideItem bytes l r refusal = ⊥
-OutsideItem bytes l r form = ⊥
-OutsideItem bytes l r units = ⊥
-OutsideItem bytes l r modulus = ⊥
-OutsideItem bytes l r mather = ⊥
-OutsideItem bytes l r milnor = ⊥
-OutsideItem bytes l r functional = ⊥
+OutsideItem bytes l r items.Germ = IsCritical bytes l
+OutsideItem bytes l r items.Shape = IsShape l r.carried × (r.carried.order ≡ order_of r.pattern)
+OutsideItem bytes l r items.Inverse = IsInvertibleChange r.carried
+OutsideItem bytes l r items.Carry = IsCarriedTo l r.carried
+OutsideItem bytes l r items.Pattern = IsInPattern r.pattern r.carried
+OutsideItem bytes l r items.Refusal = ⊥
+OutsideItem bytes l r items.Form = ⊥
+OutsideItem bytes l r items.Units = ⊥
+OutsideItem bytes l r items.Modulus = ⊥
+OutsideItem bytes l r items.Mather = ⊥
+OutsideItem bytes l r items.Milnor = ⊥
+OutsideItem bytes l r items.Functional = ⊥
 
 abbrev pub outside_items : List Item
-outside_items = germ ∷ shape ∷ inverse ∷ carry ∷ pattern ∷ []
+outside_items = items.Germ ∷ items.Shape ∷ items.Inverse ∷ items.Carry ∷ items.Pattern ∷ []
 
 -- the item is true of a limit report
 abbrev pub LimitItem : List ℕ → Line → limit_type.Limit → Item → Type 0
-LimitItem bytes l r germ = IsCritical bytes l
-LimitItem bytes l r shape = IsShape l r.carried × (r.carried.corank ≤ 3) × (3 ≤ r.carried.order)
-LimitItem bytes l r inverse = IsInvertibleChange r.carried
-LimitItem bytes l r carry = IsCarriedTo l r.carried
-LimitItem bytes l r functional = IsLimitFunctional r
-LimitItem bytes l r refusal = ⊥
-LimitItem bytes l r form = ⊥
-LimitItem bytes l r units = ⊥
-LimitItem bytes l r modulus = ⊥
-LimitItem bytes l r mather = ⊥
-LimitItem bytes l r milnor = ⊥
-LimitItem bytes l r pattern = ⊥
+LimitItem bytes l r items.Germ = IsCritical bytes l
+LimitItem bytes l r items.Shape = IsShape l r.carried × (r.carried.corank ≤ 3) × (3 ≤ r.carried.order)
+LimitItem bytes l r items.Inverse = IsInvertibleChange r.carried
+LimitItem bytes l r items.Carry = IsCarriedTo l r.carried
+LimitItem bytes l r items.Functional = IsLimitFunctional r
+LimitItem bytes l r items.Refusal = ⊥
+LimitItem bytes l r items.Form = ⊥
+LimitItem bytes l r items.Units = ⊥
+LimitItem bytes l r items.Modulus = ⊥
+LimitItem bytes l r items.Mather = ⊥
+LimitItem bytes l r items.Milnor = ⊥
+LimitItem bytes l r items.Pattern = ⊥
 
 abbrev pub limit_items : List Item
-limit_items = germ ∷ shape ∷ inverse ∷ carry ∷ functional ∷ []
+limit_items = items.Germ ∷ items.Shape ∷ items.Inverse ∷ items.Carry ∷ items.Functional ∷ []
 
 -- the item is true of an unresolved report
 abbrev pub UnresolvedItem : List ℕ → Line → unresolved_type.Unresolved → Item → Type 0
-UnresolvedItem bytes l r germ = IsCritical bytes l
-UnresolvedItem bytes l r shape = IsShape l r.carried × (r.carried.corank ≤ 3)
-UnresolvedItem bytes l r inverse = IsInvertibleChange r.carried
-UnresolvedItem bytes l r carry = IsCarriedTo l r.carried
-UnresolvedItem bytes l r mather = IsDetermined r
-UnresolvedItem bytes l r refusal = ⊥
-UnresolvedItem bytes l r form = ⊥
-UnresolvedItem bytes l r units = ⊥
-UnresolvedItem bytes l r modulus = ⊥
-UnresolvedItem bytes l r milnor = ⊥
-UnresolvedItem bytes l r functional = ⊥
-UnresolvedItem bytes l r pattern = ⊥
+UnresolvedItem bytes l r items.Germ = IsCritical bytes l
+UnresolvedItem bytes l r items.Shape = IsShape l r.carried × (r.carried.corank ≤ 3)
+UnresolvedItem bytes l r items.Inverse = IsInvertibleChange r.carried
+UnresolvedItem bytes l r items.Carry = IsCarriedTo l r.carried
+UnresolvedItem bytes l r items.Mather = IsDetermined r
+UnresolvedItem bytes l r items.Refusal = ⊥
+UnresolvedItem bytes l r items.Form = ⊥
+UnresolvedItem bytes l r items.Units = ⊥
+UnresolvedItem bytes l r items.Modulus = ⊥
+UnresolvedItem bytes l r items.Milnor = ⊥
+UnresolvedItem bytes l r items.Functional = ⊥
+UnresolvedItem bytes l r items.Pattern = ⊥
 
 abbrev pub unresolved_items : List Item
-unresolved_items = germ ∷ shape ∷ inverse ∷ carry ∷ mather ∷ []
+unresolved_items = items.Germ ∷ items.Shape ∷ items.Inverse ∷ items.Carry ∷ items.Mather ∷ []
 
 -- all items are true of the answer to the line with these bytes; range, field and unbuilt answers have no items and are not valid
 abbrev pub IsValidAnswer : List ℕ → Answer → Type 0

@@ -12,38 +12,37 @@ use Rattle.cert_text.specs.Text.{report_text, line}
 use Rattle.cert_text.specs.WellFormed.{IsWellFormed}
 use Rattle.cert_text.specs.BadText.{IsBadText}
 use Rattle.report_law.specs.Items.{IsSyntaxRefusal, IsLiteralRefusal, IsNotCritical}
-use Rattle.report_law.specs.Valid.{Item, IsValid, NamedItem, OutsideItem, LimitItem, UnresolvedItem, named_items, outside_items, limit_items, unresolved_items}
-use Rattle.report_law.specs.Valid as items
-
--- the verdicts on one chunk: valid; not checked; invalid, by the first item that is false; an item whose numbers are too high; no report,
--- after so many bytes
-pub data Verdict : Type 0 where
-  valid : Verdict
-  unchecked : Verdict
-  invalid : Item → Verdict
-  range : Item → Verdict
-  invalid_text : (offset : ℕ) → Verdict
+use Rattle.report_law.specs.declared.item.Item.{Item}
+use Rattle.report_law.specs.declared.item.Item.TheVariants as items
+use Rattle.report_law.specs.declared.verdict.Verdict.{Verdict}
+use Rattle.report_law.specs.declared.verdict.Verdict.TheVariants as verdicts
+use Rattle.report_law.specs.declared.verdict.Finding.{Finding}
+use Rattle.report_law.specs.declared.verdict.Finding.TheVariants as findings
+use Rattle.report_law.specs.Valid.{IsValid, NamedItem, OutsideItem, LimitItem, UnresolvedItem, named_items, outside_items, limit_items, unresolved_items}
 
 unfoldable pub item_text : Item → List ℕ
-item_text items.refusal = codes "refusal"
-item_text items.germ = codes "germ"
-item_text items.shape = codes "shape"
-item_text items.inverse = codes "inverse"
-item_text items.carry = codes "carry"
-item_text items.form = codes "form"
-item_text items.units = codes "units"
-item_text items.modulus = codes "modulus"
-item_text items.mather = codes "mather"
-item_text items.milnor = codes "milnor"
-item_text items.functional = codes "functional"
-item_text items.pattern = codes "pattern"
+item_text items.Refusal = codes "refusal"
+item_text items.Germ = codes "germ"
+item_text items.Shape = codes "shape"
+item_text items.Inverse = codes "inverse"
+item_text items.Carry = codes "carry"
+item_text items.Form = codes "form"
+item_text items.Units = codes "units"
+item_text items.Modulus = codes "modulus"
+item_text items.Mather = codes "mather"
+item_text items.Milnor = codes "milnor"
+item_text items.Functional = codes "functional"
+item_text items.Pattern = codes "pattern"
 
 unfoldable pub verdict_text : Verdict → List ℕ
-verdict_text valid = codes "valid"
-verdict_text unchecked = codes "unchecked"
-verdict_text (invalid item) = codes "invalid " ++ item_text item
-verdict_text (range item) = codes "range " ++ item_text item
-verdict_text (invalid_text offset) = codes "invalid text " ++ decimal offset
+verdict_text verdicts.Valid = codes "valid"
+verdict_text verdicts.Unchecked = codes "unchecked"
+verdict_text (verdicts.Invalid item) = codes "invalid " ++ item_text item
+verdict_text (verdicts.Range item) = codes "range " ++ item_text item
+
+unfoldable pub finding_text : Finding → List ℕ
+finding_text (findings.Report verdict) = verdict_text verdict
+finding_text (findings.BadText offset) = codes "invalid text " ++ decimal offset
 
 -- the answer has no items
 abbrev pub IsUncheckedAnswer : Answer → Type 0
@@ -73,12 +72,12 @@ IsFirstFalse Holds list item = IsReached Holds list item × (Holds item → ⊥)
 -- of a certificate: where the bytes spell no critical line, the item of the germ is the first false one
 abbrev pub IsFirstFalseOf : List ℕ → (Line → Item → Type 0) → List Item → Item → Type 0
 IsFirstFalseOf bytes Holds list item =
-    ((item ≡ items.germ) × ((l : Line) → IsCritical bytes l → ⊥))
+    ((item ≡ items.Germ) × ((l : Line) → IsCritical bytes l → ⊥))
     ⊎ ((l : Line) × IsCritical bytes l × IsFirstFalse (Holds l) list item)
 
 -- a refusal has the one item, which is false
 abbrev pub IsFalseRefusal : Type 0 → Item → Type 0
-IsFalseRefusal Holds item = (item ≡ items.refusal) × (Holds → ⊥)
+IsFalseRefusal Holds item = (item ≡ items.Refusal) × (Holds → ⊥)
 
 abbrev pub IsInvalidAnswer : List ℕ → Answer → Item → Type 0
 IsInvalidAnswer bytes (answers.Syntax column what) item = IsFalseRefusal (IsSyntaxRefusal bytes column what) item
@@ -99,13 +98,13 @@ IsInvalid (reports.Line bytes answer) item = IsInvalidAnswer bytes answer item
 
 -- of a certificate: the item of the germ, or one of a critical line whose items before it are true
 abbrev pub IsReachedOf : List ℕ → (Line → Item → Type 0) → List Item → Item → Type 0
-IsReachedOf bytes Holds list item = (item ≡ items.germ) ⊎ ((l : Line) × IsCritical bytes l × IsReached (Holds l) list item)
+IsReachedOf bytes Holds list item = (item ≡ items.Germ) ⊎ ((l : Line) × IsCritical bytes l × IsReached (Holds l) list item)
 
 abbrev pub IsReachedIn : Report → Item → Type 0
 IsReachedIn (reports.Long size) item = ⊥
-IsReachedIn (reports.Line bytes (answers.Syntax column what)) item = item ≡ items.refusal
-IsReachedIn (reports.Line bytes (answers.Literal column)) item = item ≡ items.refusal
-IsReachedIn (reports.Line bytes (answers.NotCritical variable)) item = item ≡ items.refusal
+IsReachedIn (reports.Line bytes (answers.Syntax column what)) item = item ≡ items.Refusal
+IsReachedIn (reports.Line bytes (answers.Literal column)) item = item ≡ items.Refusal
+IsReachedIn (reports.Line bytes (answers.NotCritical variable)) item = item ≡ items.Refusal
 IsReachedIn (reports.Line bytes (answers.Range phase)) item = ⊥
 IsReachedIn (reports.Line bytes (answers.Field algebra)) item = ⊥
 IsReachedIn (reports.Line bytes answers.Unbuilt) item = ⊥
@@ -121,15 +120,20 @@ pub record IsTextOf (chunk : List ℕ) (r : Report) : Type 0 where
   pub well_formed : IsWellFormed r
   pub text : chunk ≡ report_text r
 
--- the verdict on a chunk is true; `IsHigh` says of which items the numbers are too high
-abbrev pub IsVerdict : (Report → Item → Type 0) → List ℕ → Verdict → Type 0
-IsVerdict IsHigh chunk valid = (r : Report) × IsTextOf chunk r × IsValid r
-IsVerdict IsHigh chunk unchecked = (r : Report) × IsTextOf chunk r × IsUnchecked r
-IsVerdict IsHigh chunk (invalid item) = (r : Report) × IsTextOf chunk r × IsInvalid r item
-IsVerdict IsHigh chunk (range item) = (r : Report) × IsTextOf chunk r × IsReachedIn r item × IsHigh r item
-IsVerdict IsHigh chunk (invalid_text offset) = IsBadText chunk offset
+-- the verdict on a report is true: it is valid, or has no items, or the item is its first false one, or the items before this one are true
+-- and its numbers are too high; `IsHigh` says of which items they are
+abbrev pub IsVerdictOn : (Report → Item → Type 0) → Report → Verdict → Type 0
+IsVerdictOn IsHigh r verdicts.Valid = IsValid r
+IsVerdictOn IsHigh r verdicts.Unchecked = IsUnchecked r
+IsVerdictOn IsHigh r (verdicts.Invalid item) = IsInvalid r item
+IsVerdictOn IsHigh r (verdicts.Range item) = IsReachedIn r item × IsHigh r item
+
+-- the finding on a chunk is true: a verdict on the report whose text it is, or how far it is like a report where it is none
+abbrev pub IsVerdict : (Report → Item → Type 0) → List ℕ → Finding → Type 0
+IsVerdict IsHigh chunk (findings.Report verdict) = (r : Report) × IsTextOf chunk r × IsVerdictOn IsHigh r verdict
+IsVerdict IsHigh chunk (findings.BadText offset) = IsBadText chunk offset
 
 -- the bytes are a line for each of the chunks, in order, with its verdict
 abbrev pub IsChecked : (Report → Item → Type 0) → List (List ℕ) → List ℕ → Type 0
 IsChecked IsHigh chunks written =
-    (verdicts : List Verdict) × AllZip (IsVerdict IsHigh) chunks verdicts × (written ≡ flat_map (λ v. line (verdict_text v)) verdicts)
+    (found : List Finding) × AllZip (IsVerdict IsHigh) chunks found × (written ≡ flat_map (λ f. line (finding_text f)) found)

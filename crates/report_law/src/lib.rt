@@ -1,7 +1,15 @@
-//! What a valid report and a right report are, and what a valid one means.
+//! What a valid report and a right report are, what a valid one means, and the verdicts of a checker.
 #![tactic(auto)]
 
+mod item;
+mod verdict;
+mod wording;
+
 ghost use Rattle.report_law.specs.Meaning.{LimitHasNoRows, NamedHasRows, NamedIsFree};
+
+pub use item::Item;
+pub use verdict::{Finding, Verdict};
+pub use wording::{item_bytes, put_finding, put_verdict};
 
 /// Of a valid named report the jets of the order modulo the partials of the form's residual part are
 /// free with the printed basis, so that the Milnor number is their dimension.

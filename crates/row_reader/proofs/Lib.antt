@@ -1,0 +1,4 @@
+pub mod Series
+pub mod WordTexts
+pub mod ValueTexts
+pub mod RowTexts

@@ -35,9 +35,13 @@ IsResidual corank m = IsTrue (is_monomial_in corank m && nat_le (sum m.e) 17)
 abbrev pub AreResidual : ℕ → List Exp → Type 0
 AreResidual corank ms = IsTrue (list_all (λ m. is_monomial_in corank m && nat_le (sum m.e) 17) ms)
 
+-- monomials, each after a space
+abbrev pub monomials_text : List Exp → List ℕ
+monomials_text ms = flat_map (λ m. 32 ∷ monomial_text m) ms
+
 -- `basis`, and the monomials each after a space
 abbrev pub basis_inside : List Exp → List ℕ
-basis_inside ms = codes "basis" ++ flat_map (λ m. 32 ∷ monomial_text m) ms
+basis_inside ms = codes "basis" ++ monomials_text ms
 
 -- a monomial with the value of a functional there, which is not 0
 abbrev pub IsFunctionalValue : Algebra → ℕ → Exp × Ext Frac → Type 0

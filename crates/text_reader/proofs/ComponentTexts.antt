@@ -9,7 +9,7 @@ use Rattle.poly_text.specs.Numbers.{component, fraction_text, is_whole, is_zero_
 use Rattle.cert_law.specs.Unique.{Starts}
 use Rattle.cert_law.specs.Fields.{IsBody, EndsPiece}
 use Rattle.cert_law.proofs.Cut.{head, cut}
-use Rattle.cert_law.proofs.Numbers.{IsDigit, digits, fraction_is}
+use Rattle.cert_law.proofs.Numbers.{IsDigit, all_append, digits, fraction_is}
 use Rattle.cert_law.proofs.Pieces.{piece_one}
 use Rattle.cert_law.proofs.Sums.{Signed, sign_of}
 use Rattle.cert_law.proofs.Valid.{all_to, component_by}
@@ -21,72 +21,92 @@ use Rattle.text_reader.specs.Reading.{IsTextOf, IsNoText}
 use Rattle.text_reader.proofs.Fractions.{parts_of, opposite_of, whole_natural}
 use Rattle.text_reader.proofs.PieceTexts.{signed_cases, letters_signed, unit_is, other_text, signed_list}
 
--- ---- texts without a sign inside
+-- ---- the bytes of coefficients
 
-not_sign : (b : ℕ) → 47 ≤ b → IsSign b → ⊥
-not_sign b le (inl e) = omega (arith, le, e)
-not_sign b le (inr e) = omega (arith, le, e)
+-- a kind of bytes with the digits, the slash and the star
+pub record Admits (P : ℕ → Type 0) : Type 0 where
+  pub digit : (b : ℕ) → IsDigit b → P b
+  pub slash : P 47
+  pub star : P 42
 
-append_all : (xs ys : List ℕ) → AllByRecursion (λ b. ¬ IsSign b) xs → AllByRecursion (λ b. ¬ IsSign b) ys → AllByRecursion (λ b. ¬ IsSign b) (xs ++ ys)
-append_all [] ys p q = q
-append_all (x ∷ xs) ys p q = (p.0, append_all xs ys p.1 q)
-
-number_signs : (n : ℕ) → n < 2 ^ 127 → AllByRecursion (λ b. ¬ IsSign b) (decimal n)
-number_signs n lt = all_to IsDigit (λ b. ¬ IsSign b) (λ b d. not_sign b (omega (arith, d.0))) (decimal n) (digits n (omega (arith, lt)))
-
-over_signs : (t : Bool) (d : ℕ) → d < 2 ^ 127 → AllByRecursion (λ b. ¬ IsSign b) (cond t [] (47 ∷ decimal d))
-over_signs true d lt = tt
-over_signs false d lt = (not_sign 47 (omega arith), number_signs d lt)
-
-natural_signs : (q : Frac) → IsNatural q → AllByRecursion (λ b. ¬ IsSign b) (fraction_text q)
-natural_signs q h =
+pub natural_all : (P : ℕ → Type 0) → Admits P → (q : Frac) → IsNatural q → AllByRecursion P (fraction_text q)
+natural_all P adm q h =
     let p = parts_of q h in
-    subst (λ z. AllByRecursion (λ b. ¬ IsSign b) (fraction_text z)) (sym p.is)
-    (append_all (decimal (unsigned_abs q.num)) (cond (is_whole (pos (unsigned_abs q.den)) (pos 1)) [] (47 ∷ decimal (unsigned_abs q.den)))
-    (number_signs (unsigned_abs q.num) p.num_fits) (over_signs (is_whole (pos (unsigned_abs q.den)) (pos 1)) (unsigned_abs q.den) p.den_fits))
+    subst (λ z. AllByRecursion P (fraction_text z)) (sym p.is)
+    (all_append P (decimal (unsigned_abs q.num)) (cond (is_whole (pos (unsigned_abs q.den)) (pos 1)) [] (47 ∷ decimal (unsigned_abs q.den)))
+    (number (unsigned_abs q.num) p.num_fits) (over (is_whole (pos (unsigned_abs q.den)) (pos 1)) (unsigned_abs q.den) p.den_fits))
+  where
+    number : (n : ℕ) → n < 2 ^ 127 → AllByRecursion P (decimal n)
+    number n lt = all_to IsDigit P adm.digit (decimal n) (digits n (omega (arith, lt)))
 
--- a sign, and no sign behind it
-pub record IsPieceOf (text : List ℕ) (s : ℕ) (m : List ℕ) : Type 0 where
+    over : (t : Bool) (d : ℕ) → d < 2 ^ 127 → AllByRecursion P (cond t [] (47 ∷ decimal d))
+    over true d lt = tt
+    over false d lt = (adm.slash, number d lt)
+
+-- a sign, and bytes of this kind behind it
+pub record IsPieceOf (P : ℕ → Type 0) (text : List ℕ) (s : ℕ) (m : List ℕ) : Type 0 where
   pub is : text ≡ s ∷ m
-  pub inside : AllByRecursion (λ b. ¬ IsSign b) m
+  pub sign : IsSign s
+  pub inside : AllByRecursion P m
 
-signed_piece : (q : Frac) → IsTrue (is_frac q) → (s : ℕ) × (m : List ℕ) × IsPieceOf (signed_text (fraction_text q)) s m
-signed_piece q valid =
+pub first_sign : (f : List ℕ) (s : ℕ) (m : List ℕ) → Signed f → f ≡ s ∷ m → IsSign s
+first_sign [] s m h e = absurd h
+first_sign (b ∷ bs) s m h e = subst IsSign (head b s bs m e).0 h
+
+pub signed_piece : (P : ℕ → Type 0) → Admits P → (q : Frac) → IsTrue (is_frac q) → (s : ℕ) × (m : List ℕ) × IsPieceOf P (signed_text (fraction_text q)) s m
+signed_piece P adm q valid =
     let f = signed_list (signed_text (fraction_text q)) (sign_of (fraction_text q)) in (
       f.0,
       f.1,
       record {
         is = f.2;
+        sign = first_sign (signed_text (fraction_text q)) f.0 f.1 (sign_of (fraction_text q)) f.2;
         inside = elim (signed_cases q f.0 f.1 valid f.2) [
-          | inl h ↦ subst (AllByRecursion (λ b. ¬ IsSign b)) h.2 (natural_signs q h.1)
-          | inr h ↦ subst (AllByRecursion (λ b. ¬ IsSign b)) h.1.text (natural_signs (opposite_of q) h.1.natural)
+          | inl h ↦ subst (AllByRecursion P) h.2 (natural_all P adm q h.1)
+          | inr h ↦ subst (AllByRecursion P) h.1.text (natural_all P adm (opposite_of q) h.1.natural)
         ];
       },
     )
 
-lettered_by : (t : Bool) (q : Frac) (letters : List ℕ) → is_unit_of q ≡ t → IsTrue (is_frac q) → IsLetters letters → AllByRecursion (λ b. ¬ IsSign b) letters → (s : ℕ) × (m : List ℕ) × IsPieceOf (signed_text (product_text q (42 ∷ letters))) s (m ++ letters)
-lettered_by true q letters e valid h inside =
+-- a coefficient before letters: its sign, and bytes of this kind between it and the letters
+pub record IsBefore (P : ℕ → Type 0) (text : List ℕ) (s : ℕ) (m letters : List ℕ) : Type 0 where
+  pub is : text ≡ s ∷ (m ++ letters)
+  pub sign : IsSign s
+  pub inside : AllByRecursion P m
+
+lettered_by : (P : ℕ → Type 0) → Admits P → (t : Bool) (q : Frac) (letters : List ℕ) → is_unit_of q ≡ t → IsTrue (is_frac q) → IsLetters letters → (s : ℕ) × (m : List ℕ) × IsBefore P (signed_text (product_text q (42 ∷ letters))) s m letters
+lettered_by P adm true q letters e valid h =
     elim (unit_is q e) [
-      | inl is ↦ (43, [], record { is = ap (λ z. signed_text (product_text z (42 ∷ letters))) is ∙ letters_signed letters h; inside = inside })
-      | inr is ↦ (45, [], record { is = ap (λ z. signed_text (product_text z (42 ∷ letters))) is; inside = inside })
+      | inl is ↦ (43, [], record { is = ap (λ z. signed_text (product_text z (42 ∷ letters))) is ∙ letters_signed letters h; sign = inl refl; inside = tt })
+      | inr is ↦ (45, [], record { is = ap (λ z. signed_text (product_text z (42 ∷ letters))) is; sign = inr refl; inside = tt })
     ]
-lettered_by false q letters e valid h inside =
-    let f = signed_piece q valid in (
+lettered_by P adm false q letters e valid h =
+    let f = signed_piece P adm q valid in (
       f.0,
       f.1 ++ 42 ∷ [],
       record {
         is = other_text q letters valid e ∙ ap (λ z. z ++ 42 ∷ letters) f.2.is ∙ ap (λ z. f.0 ∷ z) (sym (append_assoc f.1 (42 ∷ []) letters));
-        inside = append_all (f.1 ++ 42 ∷ []) letters (append_all f.1 (42 ∷ []) f.2.inside ((λ s. star_sign s), tt)) inside;
+        sign = f.2.sign;
+        inside = all_append P f.1 (42 ∷ []) f.2.inside (adm.star, tt);
       },
     )
-  where
-    star_sign : IsSign 42 → ⊥
-    star_sign (inl is) = omega (arith, is)
-    star_sign (inr is) = omega (arith, is)
 
 -- a piece with letters ends with them
-pub lettered : (q : Frac) (letters : List ℕ) → IsTrue (is_frac q) → IsLetters letters → AllByRecursion (λ b. ¬ IsSign b) letters → (s : ℕ) × (m : List ℕ) × IsPieceOf (signed_text (product_text q (42 ∷ letters))) s (m ++ letters)
-lettered q letters valid h inside = lettered_by (is_unit_of q) q letters refl valid h inside
+pub lettered : (P : ℕ → Type 0) → Admits P → (q : Frac) (letters : List ℕ) → IsTrue (is_frac q) → IsLetters letters → (s : ℕ) × (m : List ℕ) × IsBefore P (signed_text (product_text q (42 ∷ letters))) s m letters
+lettered P adm q letters valid h = lettered_by P adm (is_unit_of q) q letters refl valid h
+
+-- ---- texts without a sign inside
+
+pub not_sign : (b : ℕ) → 47 ≤ b → IsSign b → ⊥
+not_sign b le (inl e) = omega (arith, le, e)
+not_sign b le (inr e) = omega (arith, le, e)
+
+star_sign : IsSign 42 → ⊥
+star_sign (inl is) = omega (arith, is)
+star_sign (inr is) = omega (arith, is)
+
+pub unsigned : Admits (λ b. ¬ IsSign b)
+unsigned = record { digit = λ b d. not_sign b (omega (arith, d.0)); slash = not_sign 47 (omega arith); star = star_sign }
 
 end_by : (t : Bool) (q : Frac) (letters : List ℕ) (s : ℕ) (m : List ℕ) → is_unit_of q ≡ t → IsTrue (is_frac q) → IsLetters letters → signed_text (product_text q (42 ∷ letters)) ≡ s ∷ m → (front : List ℕ) × (m ≡ front ++ letters)
 end_by true q letters s m e valid h text =
@@ -104,12 +124,14 @@ ends_with q letters s m valid h text = end_by (is_unit_of q) q letters s m refl 
 
 -- ---- the pieces of an element
 
-pub piece_shape : (power : Power) (q : Frac) → IsTrue (is_frac q) → (s : ℕ) × (m : List ℕ) × IsPieceOf (piece_of power q) s m
-piece_shape powers.One q valid = signed_piece q valid
-piece_shape powers.T q valid = let h = lettered q (116 ∷ []) valid (omega arith) (not_sign 116 (omega arith), tt) in (h.0, h.1 ++ 116 ∷ [], h.2)
-piece_shape powers.Square q valid =
-    let h = lettered q (116 ∷ 94 ∷ 50 ∷ []) valid (omega arith) (not_sign 116 (omega arith), (not_sign 94 (omega arith), (not_sign 50 (omega arith), tt))) in
-    (h.0, h.1 ++ 116 ∷ 94 ∷ 50 ∷ [], h.2)
+pub piece_shape : (P : ℕ → Type 0) → Admits P → P 116 → P 94 → (power : Power) (q : Frac) → IsTrue (is_frac q) → (s : ℕ) × (m : List ℕ) × IsPieceOf P (piece_of power q) s m
+piece_shape P adm t caret powers.One q valid = signed_piece P adm q valid
+piece_shape P adm t caret powers.T q valid =
+    let h = lettered P adm q (116 ∷ []) valid (omega arith) in
+    (h.0, h.1 ++ 116 ∷ [], record { is = h.2.is; sign = h.2.sign; inside = all_append P h.1 (116 ∷ []) h.2.inside (t, tt) })
+piece_shape P adm t caret powers.Square q valid =
+    let h = lettered P adm q (116 ∷ 94 ∷ 50 ∷ []) valid (omega arith) in
+    (h.0, h.1 ++ 116 ∷ 94 ∷ 50 ∷ [], record { is = h.2.is; sign = h.2.sign; inside = all_append P h.1 (116 ∷ 94 ∷ 50 ∷ []) h.2.inside (t, (caret, (adm.digit 50 (omega arith, omega arith), tt))) })
 
 pub body_is : (power : Power) → IsBody (body_of power)
 body_is powers.One = tt
@@ -124,7 +146,7 @@ ends_piece (b ∷ bs) (inr e) = (omega (arith, e), λ q. omega (arith, e, q))
 -- the front of a sum up to the next sign is a piece that stands there
 pub piece_cut : (power : Power) (q : Frac) (sign : ℕ) (magnitude x y : List ℕ) → IsTrue (is_frac q) → AllByRecursion (λ b. ¬ IsSign b) magnitude → Starts IsSign x → Starts IsSign y → sign ∷ (magnitude ++ x) ≡ piece_of power q ++ y → piece_of power q ≡ sign ∷ magnitude
 piece_cut power q sign magnitude x y valid free sx sy e =
-    let p = piece_shape power q valid in
+    let p = piece_shape (λ b. ¬ IsSign b) unsigned (not_sign 116 (omega arith)) (not_sign 94 (omega arith)) power q valid in
     let k = head sign p.0 (magnitude ++ x) (p.1 ++ y) (e ∙ ap (λ z. z ++ y) p.2.is) in
     let r = cut (λ b. ¬ IsSign b) IsSign (λ b i o. i o) magnitude p.1 x y free p.2.inside sx sy k.1 in
     p.2.is ∙ (λ i. sym k.0 i ∷ sym r.0 i)
@@ -186,7 +208,7 @@ present_found power q found rest sign behind magnitude x valid follows whole sta
 pub follows_nothing : (power : Power) → Follows power []
 follows_nothing power = record { starts = tt; other = λ q x ok s e. some_piece (piece_of power q) x (sign_of (product_text q (body_of power))) (sym e) }
 
-starts_signed : (f x : List ℕ) → Signed f → Starts IsSign (f ++ x)
+pub starts_signed : (f x : List ℕ) → Signed f → Starts IsSign (f ++ x)
 starts_signed [] x h = absurd h
 starts_signed (b ∷ bs) x h = h
 

@@ -141,7 +141,7 @@ element_fractions a e h =
     let z = both (is_frac e.c2) (is_zero_past a e) y.1 in
     (record { c0 = x.0; c1 = y.0; c2 = z.0 }, z.1)
 
-and_true : (a b : Bool) → a ≡ true → b ≡ true → (a && b) ≡ true
+pub and_true : (a b : Bool) → a ≡ true → b ≡ true → (a && b) ≡ true
 and_true true b ea eb = eb
 and_true false b ea eb = absurd cc
 

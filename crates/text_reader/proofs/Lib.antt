@@ -11,3 +11,6 @@ pub mod PieceTexts
 pub mod ComponentTexts
 pub mod ElementTexts
 pub mod ModulusTexts
+pub mod TermTexts
+pub mod PolynomialTexts
+pub mod VisibleTexts

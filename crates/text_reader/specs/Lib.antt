@@ -5,3 +5,4 @@ pub mod Numbers
 pub mod Factors
 pub mod Pieces
 pub mod Moduli
+pub mod Terms

@@ -12,6 +12,7 @@ mod number;
 mod piece;
 mod polynomial;
 mod splitting;
+mod term;
 mod word;
 
 pub use algebra::{read_algebra, read_modulus};

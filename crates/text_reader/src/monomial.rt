@@ -70,8 +70,8 @@ fn take_power(factors: Option<&[u8]>, digit: u8) -> Option<(u8, Option<&[u8]>)>
     }
 }
 
-// The monomial with these factors, which stand in the order of their variables.
-fn read_factors(bytes: &[u8]) -> Option<Exp>
+/// The monomial with these factors, which stand in the order of their variables.
+pub(crate) fn read_factors(bytes: &[u8]) -> Option<Exp>
     ensures some { IfSome result (IsTextOf IsMonomial (λ m. factors_text new_names m.e) (42 ∷ bytes.now)) }
     ensures none { result ≡ None → IsNoText IsMonomial (λ m. factors_text new_names m.e) (42 ∷ bytes.now) }
 {
@@ -102,8 +102,8 @@ fn is_in_variables(n: u8, m: Exp) -> bool
     vanish_past(n, &m.e)
 }
 
-// The first n variables alone stand in the monomial, and its degree is at most `most`.
-fn is_within(n: u8, most: u8, m: Exp) -> bool
+/// The first n variables alone stand in the monomial, and its degree is at most `most`.
+pub(crate) fn is_within(n: u8, most: u8, m: Exp) -> bool
     ensures { result ≡ (is_monomial_in n m && nat_le (sum m.e) most) }
 {
     is_in_variables(n, m) && degree(m) <= u16::from(most)

@@ -5,8 +5,8 @@ ghost use Rattle.std.specs.List.{AllByRecursion};
 ghost use Rattle.cert_law.specs.Unique.{Starts};
 ghost use Rattle.text_reader.specs.Pieces.{joined, IsSign, is_sign};
 
-// The place of the first such byte.
-fn place_of(bytes: &[u8], byte: u8) -> Option<usize>
+/// The place of the first such byte.
+pub(crate) fn place_of(bytes: &[u8], byte: u8) -> Option<usize>
     ensures at { result ≡ position (λ b. b == byte) bytes.now }
     ensures within { IfSome result (λ at. at < length bytes.now) }
 {

@@ -90,5 +90,5 @@ returns-clause-answer g c =
     let unused : All (λ a. IsIn n a.e) c.deref-3.result.now = rw c.deref-3.ensures.value c.in_ok-monomials.ensures.unused in
     let targets : AreMonomialRows m n bound c.deref-3.result.now c.deref-5.result.now = rw c.deref-5.ensures.value c.in_ok-targets.ensures.rows in
     let solutions : AreSolutions m c.deref-4.result.now c.deref-5.result.now c.deref-8.result.now = rw c.deref-8.ensures.value c.in_ok-solutions.ensures.solutions in
-    answer_ok m laws.ring (values_are_set m.scalars laws) c.args.g.now k n c.n-n.ensures c.deref-2.result.now us c.deref-4.result.now c.deref-3.result.now c.deref-5.result.now c.deref-8.result.now c.requires.low partials multiples all list unused targets solutions
+    answer_ok m laws.ring (values_are_set m.scalars laws) c.args.g.now k n c.n-n.ensures c.deref-2.result.now us c.deref-4.result.now c.deref-3.result.now c.deref-5.result.now c.deref-8.result.now (let h = c.requires.at_most_8_variables in let e = c.n-n.ensures in omega arith) c.requires.low partials multiples all list unused targets solutions
     c.answer.result (rw (sym (c.deref-6.ensures.value ∙ sym c.deref.ensures.value), sym (c.deref-7.ensures.value ∙ sym c.deref-3.ensures.value)) c.answer.ensures.answer)

@@ -124,6 +124,7 @@ returns-clause-quotient g c =
       rows = c.deref-4.result.now;
       targets = c.deref-5.result.now;
       form = reduction.form;
+      small = (let h = c.requires.at_most_8_variables in let e = c.n-n.ensures in omega arith);
       are_partials = subst (λ i. ArePartials m i (poly_of i m.value c.args.g.now.terms) c.deref-2.result.now) (sym c.n-n.ensures) partials;
       are_multiples = multiples;
       are_rows = all;

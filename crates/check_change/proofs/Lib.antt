@@ -1,0 +1,4 @@
+pub mod SameTerms
+pub mod OneJet
+pub mod Inverses
+pub mod ReportChanges

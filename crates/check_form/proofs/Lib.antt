@@ -1,0 +1,4 @@
+mod Pairs
+mod Quotients
+mod Elements
+mod Reports

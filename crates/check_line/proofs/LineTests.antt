@@ -1,0 +1,181 @@
+-- What the reading of a line says of the items that speak of it.
+use Rattle.std.proofs.Common.{◌≡◌, ◌≢◌, ℕ, zero, suc, ◌+◌, ◌<◌, ◌≤◌, Bool, true, false, IsTrue, ◌↔◌, List, [], ◌∷◌, map, length, max, ◌⊎◌, inl, inr, refl, sym, ap, subst, ◌∙◌, true≢false, arith, eqb-true, eq-eqb, leb-true, ltb-true, lt-ltb, le-leb, get_or}
+use Rattle.std.specs.Prelude.{◌==◌, ◌||◌, ◌&&◌, nat_lt, nat_le}
+use Rattle.std.specs.List.{list_all}
+use Rattle.std.proofs.lemmas.Bool.Decides.{nat_tests}
+use Rattle.line_syntax.specs.Syntax.{Word, Line, names_of, is_name}
+use Rattle.line_syntax.specs.Grammar.{Spells, has_small_literals}
+use Rattle.line_syntax.proofs.Bools.{and_left, and_right}
+use Rattle.line_syntax.proofs.OneLine.{one_line}
+use Rattle.germ_law.specs.Germ.{IsCritical, line_limit}
+use Rattle.line_jet.specs.Reads.{IsReadHigh, IsGermOf, order_of}
+use Rattle.line_germ.specs.Names.{name_of}
+use Rattle.line_germ.specs.Reads.{IsLineGerm, IsSyntaxAt, IsLiteralAt, IsLinearIn}
+use Rattle.line_germ.specs.declared.reading.Germ.{Germ}
+use Rattle.poly_text.specs.declared.name.Name.{Name}
+use Rattle.poly_text.specs.declared.what.What.{What}
+use Rattle.poly_text.specs.Polynomials.{name_text}
+use Rattle.line_germ.specs.Answers.{what_at}
+use Rattle.cert_text.specs.declared.report.Carried.{Carried}
+use Rattle.cert_text.specs.WellFormed.{is_valid_name, IsWellFormedCarried}
+use Rattle.report_law.specs.Items.{IsSyntaxRefusal, IsLiteralRefusal, IsNotCritical, IsShape}
+use Rattle.report_law.specs.Right.{IsRead, IsHighLine}
+use Rattle.line_jet_law.specs.LineJets.{order_limit}
+use Rattle.report_law.proofs.Splitting.{and_both}
+use Rattle.report_law.proofs.Exclusions.{large_line, large_spelled, small_excludes, grammar_excludes, critical_excludes, one_front, one_literal, one_variable_name}
+use Rattle.report_law.proofs.Names.{line_names, name_text-name_of, name_valid, names_of_words, words_of_names, one_name, one_list_of_names}
+use Rattle.check_line.specs.declared.tested.Tested.{Tested}
+use Rattle.check_line.specs.declared.tested.Tested.TheVariants as tested
+use Rattle.check_line.specs.Tests.{IsTested}
+use Rattle.check_line.specs.Lines.{IsGermOfLine}
+
+-- what cannot be is told by `false`
+pub never : {P : Type 0} → (P → ⊥) → IsTrue false ↔ P
+never h = (λ t. absurd (true≢false (sym t)), λ p. absurd (h p))
+
+-- the same test of two items that hold together
+pub tested_by : {P Q H K : Type 0} (t : Tested) → P ↔ Q → (H → K) → IsTested P H t → IsTested Q K t
+tested_by tested.Holds e k h = e.0 h
+tested_by tested.Fails e k h = λ q. h (e.1 q)
+tested_by tested.High e k h = k h
+
+-- ---- lines that are read
+
+pub germ_read : (bytes : List ℕ) (limit : ℕ) (g : Germ) → IsLineGerm bytes limit g → IsRead bytes
+germ_read bytes limit g h = record { line = h.is_germ.line; spells = h.is_germ.critical.spells; small = h.is_germ.critical.small }
+
+pub high_read : (bytes : List ℕ) (limit : ℕ) → IsReadHigh bytes limit → IsRead bytes
+high_read bytes limit h = record { line = h.line; spells = h.spells; small = h.small }
+
+pub linear_read : (bytes : List ℕ) (v : Name) → IsLinearIn bytes v → IsRead bytes
+linear_read bytes v h = record { line = h.linear.line; spells = h.linear.spells; small = h.linear.small }
+
+pub high_line : (bytes : List ℕ) (limit : ℕ) → IsReadHigh bytes limit → IsHighLine bytes limit
+unfolding high_read
+high_line bytes limit h = record { read = high_read bytes limit h; is_high = h.is_high }
+
+-- ---- syntax
+
+pub read_no_syntax : (bytes : List ℕ) (column : ℕ) (what : What) → IsRead bytes → IsSyntaxRefusal bytes column what → ⊥
+read_no_syntax bytes column what r h = grammar_excludes bytes column what r.line r.spells h
+
+pub literal_no_syntax : (bytes : List ℕ) (found column : ℕ) (what : What) → IsLiteralAt bytes found → IsSyntaxRefusal bytes column what → ⊥
+literal_no_syntax bytes found column what r h =
+    let s = large_line bytes r.before r.error in grammar_excludes bytes column what s.line_is s.spells h
+
+-- a line is refused at one column, with one kind
+pub one_syntax : (bytes : List ℕ) (found column : ℕ) (kind what : What) → IsSyntaxAt bytes found kind → ((found ≡ column) × (kind ≡ what)) ↔ IsSyntaxRefusal bytes column what
+one_syntax bytes found column kind what r = (
+  λ e. record { front_length = r.before; error = r.error; column_is = sym e.0 ∙ r.column_is; what_is = sym e.1 ∙ r.what_is },
+  λ h.
+      let front = one_front bytes r.before h.front_length r.error h.error in
+      (r.column_is ∙ ap (λ n. n + 1) front ∙ sym h.column_is, r.what_is ∙ ap (what_at bytes) front ∙ sym h.what_is),
+)
+
+-- ---- numbers that are too large
+
+pub read_no_literal : (bytes : List ℕ) (column : ℕ) → IsRead bytes → IsLiteralRefusal bytes column → ⊥
+read_no_literal bytes column r h = small_excludes bytes column r.line r.spells r.small h
+
+pub syntax_no_literal : (bytes : List ℕ) (found column : ℕ) (kind : What) → IsSyntaxAt bytes found kind → IsLiteralRefusal bytes column → ⊥
+syntax_no_literal bytes found column kind r h =
+    let s = large_spelled bytes column h in r.error.outside (s.line_is, s.spells)
+
+pub one_literal_column : (bytes : List ℕ) (found column : ℕ) → IsLiteralAt bytes found → IsTrue (found == column) ↔ IsLiteralRefusal bytes column
+one_literal_column bytes found column r = (
+  λ e. record { place = r.before; error = r.error; column_is = sym (eqb-true found column e) ∙ r.column_is },
+  λ h. eq-eqb found column (r.column_is ∙ ap (λ n. n + 1) (one_literal bytes r.before h.place r.error h.error) ∙ sym h.column_is),
+)
+
+-- ---- linear terms
+
+pub germ_no_linear : (bytes : List ℕ) (limit : ℕ) (g : Germ) (w : Word) → IsLineGerm bytes limit g → IsNotCritical bytes w → ⊥
+germ_no_linear bytes limit g w r h = critical_excludes bytes r.is_germ.line w r.is_germ.critical h
+
+pub syntax_no_linear : (bytes : List ℕ) (found : ℕ) (kind : What) (w : Word) → IsSyntaxAt bytes found kind → IsNotCritical bytes w → ⊥
+syntax_no_linear bytes found kind w r h = r.error.outside (h.line, h.spells)
+
+pub literal_no_linear : (bytes : List ℕ) (found : ℕ) (w : Word) → IsLiteralAt bytes found → IsNotCritical bytes w → ⊥
+literal_no_linear bytes found w r h =
+    let s = large_line bytes r.before r.error in
+    s.not_small (subst (λ l. IsTrue (has_small_literals l)) (one_line bytes h.line s.line_is h.spells s.spells) h.small)
+
+-- a name of a line
+name_at : (names : List Word) (i : ℕ) → list_all is_name names ≡ true → i < length names → is_name (get_or names i []) ≡ true
+name_at [] i all h = absurd (omega arith)
+name_at (x ∷ xs) zero all h = and_left (is_name x) (list_all is_name xs) all
+name_at (x ∷ xs) (suc i) all h = name_at xs i (and_right (is_name x) (list_all is_name xs) all) (omega arith)
+
+pub linear_is : (bytes : List ℕ) (v : Name) → IsLinearIn bytes v → IsNotCritical bytes (name_text v) × IsTrue (is_valid_name v)
+linear_is bytes v h =
+    let line = h.linear.line in
+    let within : h.place < length h.names = subst (λ ns. h.place < length ns) h.linear.names_are h.linear.first.within in
+    let word : Word = get_or h.names h.place [] in
+    let is_word : is_name word ≡ true = name_at h.names h.place (subst (λ ns. list_all is_name ns ≡ true) h.linear.names_are (line_names line h.linear.spells.is_line)) within in (
+      record {
+        line = line;
+        spells = h.linear.spells;
+        small = h.linear.small;
+        place = h.place;
+        first = h.linear.first;
+        variable_is = ap name_text h.variable_is ∙ name_text-name_of word is_word ∙ sym (ap (λ ns. get_or ns h.place []) h.linear.names_are);
+      },
+      ap is_valid_name h.variable_is ∙ name_valid word is_word,
+    )
+
+-- the first variable with a linear coefficient has one name
+pub one_linear : (bytes : List ℕ) (v w : Name) → IsTrue (is_valid_name w) → IsLinearIn bytes v → (v ≡ w) ↔ IsNotCritical bytes (name_text w)
+one_linear bytes v w valid h = (
+  λ e. subst (λ z. IsNotCritical bytes (name_text z)) e (linear_is bytes v h).0,
+  λ k. one_name v w (linear_is bytes v h).1 valid (one_variable_name bytes (name_text v) (name_text w) (linear_is bytes v h).0 k),
+)
+
+-- ---- critical lines
+
+pub syntax_no_germ : (bytes : List ℕ) (found : ℕ) (kind : What) → IsSyntaxAt bytes found kind → (l : Line) → IsCritical bytes l → ⊥
+syntax_no_germ bytes found kind r l h = r.error.outside (l, h.spells)
+
+pub literal_no_germ : (bytes : List ℕ) (found : ℕ) → IsLiteralAt bytes found → (l : Line) → IsCritical bytes l → ⊥
+literal_no_germ bytes found r l h =
+    let s = large_line bytes r.before r.error in
+    s.not_small (subst (λ z. IsTrue (has_small_literals z)) (one_line bytes l s.line_is h.spells s.spells) h.small)
+
+pub linear_no_germ : (bytes : List ℕ) (v : Name) → IsLinearIn bytes v → (l : Line) → IsCritical bytes l → ⊥
+linear_no_germ bytes v r l h = critical_excludes bytes l (name_text v) h (linear_is bytes v r).0
+
+-- the answer of the reader is the germ of the one line that the bytes spell
+pub germ_of_line : (bytes : List ℕ) (limit : ℕ) (g : Germ) → IsLineGerm bytes limit g → IsGermOfLine bytes limit g
+germ_of_line bytes limit g h =
+    let line = h.is_germ.line in
+    let words : list_all is_name h.names ≡ true = subst (λ ns. list_all is_name ns ≡ true) h.is_germ.names_are (line_names line h.is_germ.critical.spells.is_line) in
+    record {
+      line = line;
+      critical = h.is_germ.critical;
+      only = λ l s. one_line bytes l line s h.is_germ.critical.spells;
+      valid = ap (list_all is_valid_name) h.names_are ∙ names_of_words h.names words;
+      names = ap (map name_text) h.names_are ∙ words_of_names h.names words ∙ sym h.is_germ.names_are;
+      order = h.order_is ∙ ap (λ ns. order_limit limit (length ns)) (sym h.is_germ.names_are);
+      germ = h.is_germ.is_germ;
+    }
+
+-- ---- the shape
+
+small_order : (n order : ℕ) (b : Bool) → b ≡ (nat_lt n 5 || nat_le order 12) → IsTrue b ↔ (5 ≤ n → order ≤ 12)
+small_order n order b e = (
+  λ t many. grind (arith, nat_tests),
+  λ h. grind (arith, nat_tests),
+)
+
+pub shape_is : (c : Carried) (names : List Name) (l : Line) (same low : Bool) → IsWellFormedCarried c → IsTrue (list_all is_valid_name names) → map name_text names ≡ names_of l
+    → IsTrue same ↔ (names ≡ c.names) → IsTrue low ↔ (5 ≤ length c.names → c.order ≤ 12) → IsTrue (same && low) ↔ IsShape l c
+shape_is c names l same low w valid of_line s o = (
+  λ t.
+      let is_same = s.0 (and_left same low t) in
+      record {
+        names = ap (map name_text) (sym is_same) ∙ of_line;
+        parts = w.parts_count;
+        corank = w.corank;
+        order = o.0 (and_right same low t);
+      },
+  λ h. and_both same low (s.1 (one_list_of_names names c.names valid w.names (of_line ∙ sym h.names))) (o.1 h.order),
+)

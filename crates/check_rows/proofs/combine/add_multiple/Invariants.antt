@@ -1,0 +1,17 @@
+use Rattle.std.proofs.Common.{◌≡◌, ◌≤◌, ◌++◌, take, length}
+use Rattle.poly_law.specs.ExpList.{exps}
+use Rattle.poly_law.specs.Poly.{times_term}
+use Rattle.poly_law.specs.Polynomials.{cut_in}
+use Rattle.jet_law.specs.Terms.{exp_of, poly_of}
+use Rattle.check_rows.specs.Lists.{AreTermsIn}
+use Rattle.check_rows.proofs.combine.add_multiple.Given as goal
+
+abbrev pub invariant-loop-t : goal.invariant-loop-t
+invariant-loop-t g l =
+    let m = g.R.Ring.meaning l.ring in
+    record {
+      within : l.t-index ≤ length l.h;
+      valid : AreTermsIn m l.n l.all.items;
+      so_far : poly_of l.n m.value l.all.items ≡ poly_of l.n m.value l.initial.all.items
+          ++ cut_in l.n m.scalars.ops l.k (times_term (exps l.n) m.scalars.ops (exp_of l.n l.u.0, m.value l.u.1) (poly_of l.n m.value (take l.t-index l.h)));
+    }

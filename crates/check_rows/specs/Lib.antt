@@ -1,0 +1,5 @@
+pub mod Lists
+pub mod Products
+pub mod Rows
+pub mod Functionals
+pub mod ItemHeights

@@ -1,0 +1,2 @@
+pub mod ReportJets
+pub mod LiftedJets

@@ -1,0 +1,146 @@
+-- The bytes of the small texts are visible: none is a blank or a newline.
+use Rattle.std.proofs.Common.{◌≡◌, ℕ, suc, ◌<◌, ◌≤◌, ◌^◌, Bool, true, false, cond, ◌&&◌, ◌⊎◌, inl, inr, ℤ, pos, negsuc, List, [], ◌∷◌, ◌++◌, refl, sym, ap, ◌∙◌, subst, append-nil, arith, IsTrue}
+use Rattle.std.specs.Prelude.{decimal, sum, nat_le}
+use Rattle.std.specs.List.{AllByRecursion, flat_map}
+use Rattle.std.specs.Fmt.{signed_decimal}
+use Rattle.ring_law.specs.declared.fraction.Frac.{Frac}
+use Rattle.ext_algebra.specs.declared.algebra.Algebra.{Algebra}
+use Rattle.ext_algebra.specs.declared.algebra.Algebra.TheVariants as algebras
+use Rattle.ext_algebra.specs.declared.algebra.Ext.{Ext}
+use Rattle.ext_algebra.specs.Algebra.{is_algebra, is_element}
+use Rattle.ext_algebra.specs.Fractions.{is_frac}
+use Rattle.mono_exp.specs.declared.exponent.Exp.{Exp}
+use Rattle.jet_poly.specs.JetTerms.{JetTerms}
+use Rattle.poly_text.specs.declared.name.Name.{Name}
+use Rattle.poly_text.specs.Numbers.{components_text, element_text, fraction_text, is_zero_fraction, over_text, signed_text}
+use Rattle.poly_text.specs.Polynomials.{is_one, jet_text, monomial_in, monomial_text, name_text, polynomial_in, without_star}
+use Rattle.cert_text.specs.Text.{algebra_text}
+use Rattle.cert_text.specs.WellFormed.{is_monomial_in, is_valid_name, IsJetOf}
+use Rattle.cert_law.specs.Fields.{IsInside, IsMonomial}
+use Rattle.cert_law.proofs.Jets.{factors_inside, starred_front}
+use Rattle.cert_law.proofs.Monomials.{starred}
+use Rattle.cert_law.proofs.Numbers.{IsDigit, all_append}
+use Rattle.cert_law.proofs.Parts.{IsNameByte, name_by, name_bytes}
+use Rattle.cert_law.proofs.Valid.{all_to, both}
+use Rattle.text_reader.specs.declared.piece.Power.TheVariants as powers
+use Rattle.text_reader.specs.Digits.{is_natural, IsNatural}
+use Rattle.text_reader.specs.Pieces.{AreFractions, IsSign}
+use Rattle.text_reader.specs.Terms.{IsHigherTerm, IsLongTerm, IsSimpleTerm, constant_terms, term_text, terms_text}
+use Rattle.text_reader.proofs.ComponentTexts.{Admits, natural_all, zero_of}
+use Rattle.text_reader.proofs.ElementTexts.{element_fractions, part0, part1, part2, parts_are}
+use Rattle.text_reader.proofs.Fractions.{minus_is, opposite_of}
+use Rattle.text_reader.proofs.ModulusTexts.{cubic_text, quadratic_text}
+use Rattle.text_reader.proofs.MonomialTexts.{monomial_valid}
+use Rattle.text_reader.proofs.PolynomialTexts.{constant_more, jet_terms, split_constant}
+use Rattle.text_reader.proofs.TermTexts.{component_all, element_all, factors_there, long_is, simple_shape, term_cases, one_starred, without_all}
+use Rattle.text_reader.proofs.Visible.{IsVisible}
+
+visible : Admits IsVisible
+visible = record { digit = λ b d. omega (arith, d.0); slash = omega arith; star = omega arith }
+
+-- ---- fractions and elements
+
+fraction_by : (z : ℤ) (q : Frac) → q.num ≡ z → IsTrue (is_frac q) → AllByRecursion IsVisible (fraction_text q)
+fraction_by (pos n) q e valid = natural_all IsVisible visible q (valid, ap is_natural e)
+fraction_by (negsuc n) q e valid =
+    let text : fraction_text q ≡ 45 ∷ (decimal (suc n) ++ over_text q.den) = ap (λ z. signed_decimal z ++ over_text q.den) e in
+    let h = minus_is q (decimal (suc n) ++ over_text q.den) valid text in
+    subst (AllByRecursion IsVisible) (sym text) (omega arith, subst (AllByRecursion IsVisible) h.text (natural_all IsVisible visible (opposite_of q) h.natural))
+
+pub visible-fraction : (q : Frac) → IsTrue (is_frac q) → AllByRecursion IsVisible (fraction_text q)
+visible-fraction q valid = fraction_by q.num q refl valid
+
+part_visible0 : (q : Frac) → IsTrue (is_frac q) → AllByRecursion IsVisible (part0 q)
+part_visible0 q valid = component_all IsVisible visible (omega arith) (omega arith) (omega arith) (omega arith) powers.One (is_zero_fraction q) q valid
+
+part_visible1 : (q : Frac) → IsTrue (is_frac q) → AllByRecursion IsVisible (part1 q)
+part_visible1 q valid = component_all IsVisible visible (omega arith) (omega arith) (omega arith) (omega arith) powers.T (is_zero_fraction q) q valid
+
+part_visible2 : (q : Frac) → IsTrue (is_frac q) → AllByRecursion IsVisible (part2 q)
+part_visible2 q valid = component_all IsVisible visible (omega arith) (omega arith) (omega arith) (omega arith) powers.Square (is_zero_fraction q) q valid
+
+components_visible : (e : Ext Frac) → AreFractions e → AllByRecursion IsVisible (components_text e)
+components_visible e ok =
+    let all : AllByRecursion IsVisible (part0 e.c0 ++ (part1 e.c1 ++ (part2 e.c2 ++ []))) =
+    all_append IsVisible (part0 e.c0) (part1 e.c1 ++ (part2 e.c2 ++ [])) (part_visible0 e.c0 ok.c0) (all_append IsVisible (part1 e.c1) (part2 e.c2 ++ []) (part_visible1 e.c1 ok.c1) (all_append IsVisible (part2 e.c2) [] (part_visible2 e.c2 ok.c2) tt)) in
+    subst (AllByRecursion IsVisible) (sym (sym (append-nil (components_text e)) ∙ parts_are e [])) all
+
+pub visible-components : (e : Ext Frac) → AreFractions e → AllByRecursion IsVisible (element_text e)
+visible-components e ok = element_all IsVisible visible (omega arith) (omega arith) (omega arith) (omega arith) e ok
+
+pub visible-element : (a : Algebra) (e : Ext Frac) → IsTrue (is_element a e) → AllByRecursion IsVisible (element_text e)
+visible-element a e h = visible-components e (element_fractions a e h).0
+
+-- ---- algebras
+
+pub visible-algebra : (a : Algebra) → IsTrue (is_algebra a) → AllByRecursion IsVisible (algebra_text a)
+unfolding algebra_text is_algebra
+visible-algebra algebras.Rational h = (omega arith, tt)
+visible-algebra (algebras.Quadratic m1 m0) h =
+    let p = both (is_frac m1) (is_frac m0) h in
+    subst (AllByRecursion IsVisible) (sym (quadratic_text m1 m0))
+    (omega arith, (omega arith, (omega arith, all_append IsVisible (part1 m1) (part0 m0 ++ []) (part_visible1 m1 p.0) (all_append IsVisible (part0 m0) [] (part_visible0 m0 p.1) tt))))
+visible-algebra (algebras.Cubic m2 m1 m0) h =
+    let p = both (is_frac m2) (is_frac m1 && is_frac m0) h in
+    let q = both (is_frac m1) (is_frac m0) p.1 in
+    subst (AllByRecursion IsVisible) (sym (cubic_text m2 m1 m0))
+    (omega arith, (omega arith, (omega arith, all_append IsVisible (part2 m2) (part1 m1 ++ (part0 m0 ++ [])) (part_visible2 m2 p.0) (all_append IsVisible (part1 m1) (part0 m0 ++ []) (part_visible1 m1 q.0) (all_append IsVisible (part0 m0) [] (part_visible0 m0 q.1) tt)))))
+
+-- ---- names and monomials
+
+pub visible-name : (name : Name) → IsTrue (is_valid_name name) → AllByRecursion IsVisible (name_text name)
+visible-name name h =
+    let p = name_by name h in
+    subst (AllByRecursion IsVisible) (sym p.text) (all_to IsNameByte IsVisible (λ b le. omega (arith, le)) _ (name_bytes _ p.spelled))
+
+inside_visible : (b : ℕ) → IsInside b → IsVisible b
+inside_visible b (inl le) = omega (arith, le)
+inside_visible b (inr is) = omega (arith, is)
+
+factors_visible : (m : Exp) → IsMonomial m → is_one m ≡ false → AllByRecursion IsVisible (starred m)
+factors_visible m is higher = all_to IsInside IsVisible inside_visible (starred m) (factors_inside (starred m) (starred_front m is higher))
+
+behind_star : (x : List ℕ) → AllByRecursion IsVisible x → AllByRecursion IsVisible (without_star x)
+behind_star [] h = (omega arith, tt)
+behind_star (b ∷ bs) h = h.1
+
+pub visible-power : (m : Exp) → IsMonomial m → AllByRecursion IsVisible (monomial_text m)
+unfolding monomial_in
+visible-power m is = behind_star (starred m) (by_test (is_one m) refl)
+  where
+    by_test : (t : Bool) → is_one m ≡ t → AllByRecursion IsVisible (starred m)
+    by_test true e = subst (AllByRecursion IsVisible) (sym (one_starred m is e)) tt
+    by_test false e = factors_visible m is e
+
+pub visible-monomial : (n most : ℕ) (m : Exp) → most < 256 → IsTrue (is_monomial_in n m && nat_le (sum m.e) most) → AllByRecursion IsVisible (monomial_text m)
+visible-monomial n most m lt h = visible-power m (monomial_valid n most m lt h)
+
+-- ---- polynomials
+
+sign_visible : (b : ℕ) → IsSign b → IsVisible b
+sign_visible b (inl e) = omega (arith, e)
+sign_visible b (inr e) = omega (arith, e)
+
+term_visible : (t : Exp × Ext Frac) → IsHigherTerm t → AllByRecursion IsVisible (term_text t)
+term_visible t h = by_case (term_cases t h)
+  where
+    by_case : IsSimpleTerm t ⊎ IsLongTerm t → AllByRecursion IsVisible (term_text t)
+    by_case (inl s) =
+        let r = factors_there t.0 s.monomial s.higher in
+        let p = simple_shape IsVisible visible (omega arith) (omega arith) t s r.0 r.1 in
+        let more = subst (AllByRecursion IsVisible) r.1 (factors_visible t.0 s.monomial s.higher) in
+        subst (AllByRecursion IsVisible) (sym p.2.is) (sign_visible p.0 p.2.sign, all_append IsVisible p.1 (117 ∷ r.0) p.2.inside more.1)
+    by_case (inr s) =
+        subst (AllByRecursion IsVisible) (sym (long_is t s))
+        (omega arith, (omega arith, all_append IsVisible (element_text t.1) (41 ∷ starred t.0) (visible-components t.1 s.fractions) (omega arith, factors_visible t.0 s.monomial s.higher)))
+
+terms_visible : (ts : List (Exp × Ext Frac)) → AllByRecursion IsHigherTerm ts → AllByRecursion IsVisible (terms_text ts)
+terms_visible [] h = tt
+terms_visible (t ∷ ts) h = all_append IsVisible (term_text t) (terms_text ts) (term_visible t h.0) (terms_visible ts h.1)
+
+pub visible-jet : (n order : ℕ) (a : Algebra) (f : JetTerms (Ext Frac)) → order < 256 → IsJetOf n order a f → AllByRecursion IsVisible (jet_text f)
+unfolding polynomial_in
+visible-jet n order a f lt is =
+    let s = split_constant n order a f.terms lt (jet_terms n order a f is) in
+    let text : terms_text f.terms ≡ components_text s.0 ++ terms_text s.1 = ap terms_text s.2.is ∙ constant_more s.0 s.1 s.2.fractions in
+    without_all IsVisible (omega arith) (terms_text f.terms) (subst (AllByRecursion IsVisible) (sym text) (all_append IsVisible (components_text s.0) (terms_text s.1) (components_visible s.0 s.2.fractions) (terms_visible s.1 s.2.higher)))
