@@ -110,11 +110,11 @@ table_from c size row h = record { monomial = h.monomial; count = h.values.count
 table_to : (c : Carried) (size : ℕ) (row : TableRow Element) → IsWellFormedTableRow c size row → IsTableRowOf c.algebra c.corank c.order size row
 table_to c size row h = record { monomial = h.monomial; values = record { count_is = h.count; elements = h.values }; multipliers = record { count = h.multipliers.count; each = h.multipliers.each } }
 
-tests_of : {A : Type 0} (t : A → Bool) (xs : List A) → AllByRecursion (λ x. IsTrue (t x)) xs → list_all t xs ≡ true
+pub tests_of : {A : Type 0} (t : A → Bool) (xs : List A) → AllByRecursion (λ x. IsTrue (t x)) xs → list_all t xs ≡ true
 tests_of t [] h = refl
 tests_of t (x ∷ xs) h = and_true (t x) (list_all t xs) h.0 (tests_of t xs h.1)
 
-of_tests : {A : Type 0} (t : A → Bool) (xs : List A) → list_all t xs ≡ true → AllByRecursion (λ x. IsTrue (t x)) xs
+pub of_tests : {A : Type 0} (t : A → Bool) (xs : List A) → list_all t xs ≡ true → AllByRecursion (λ x. IsTrue (t x)) xs
 of_tests t xs h = all_from t (λ x. IsTrue (t x)) (λ x q. q) xs h
 
 pub carried_frame : (c : Carried) → IsWellFormedCarried c → IsFrame (frame_of c)
