@@ -10,3 +10,4 @@ pub mod CarriedLines
 pub mod EvidenceLines
 pub mod NamedLines
 pub mod AnswerLines
+pub mod FunctionalLines

@@ -170,4 +170,4 @@ unfolding polynomial_in
 shows-polynomial f h = shows-without_plus (flat_map (term_in new_names) f.terms) (shows-terms f.terms h)
 
 pub shows-jet : (n order : ℕ) (a : Algebra) (f : JetTerms Element) → order ≤ 17 → IsJetOf n order a f → Shows (jet_text f)
-shows-jet n order a f le is = shows-polynomial f (polynomial_by n order a f le is)
+shows-jet n order a f le is = shows-polynomial f (polynomial_by n order a f (omega (arith, le)) is)

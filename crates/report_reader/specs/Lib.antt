@@ -4,3 +4,4 @@ pub mod States
 pub mod Rows
 pub mod Evidence
 pub mod Answers
+pub mod Functional

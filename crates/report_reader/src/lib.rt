@@ -6,6 +6,7 @@ mod carrying;
 mod change;
 mod error;
 mod frame;
+mod functional;
 mod halt;
 mod line;
 mod named;
