@@ -12,3 +12,5 @@ pub mod NamedLines
 pub mod AnswerLines
 pub mod LimitLines
 pub mod FunctionalLines
+pub mod WholeLines
+pub mod WholeReports

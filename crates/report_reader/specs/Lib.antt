@@ -5,3 +5,4 @@ pub mod Rows
 pub mod Evidence
 pub mod Answers
 pub mod Functional
+pub mod Wholes

@@ -15,6 +15,7 @@ mod pair;
 mod report;
 mod rows;
 mod value;
+mod whole;
 
 pub use error::ReadError;
 pub use report::read_report;
