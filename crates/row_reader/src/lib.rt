@@ -3,6 +3,8 @@
 
 mod part;
 mod row;
+#[cfg(test)]
+mod tests;
 mod value;
 mod word;
 
