@@ -1,5 +1,5 @@
 -- Answers by their lines.
-use Rattle.std.proofs.Common.{◌≡◌, ℕ, zero, suc, ◌+◌, ◌*◌, ◌<◌, ◌≤◌, ◌^◌, true, ◌⊎◌, inl, inr, List, [], ◌∷◌, ◌++◌, length, get_or, refl, sym, ap, ◌∙◌, append_assoc, append-nil, arith}
+use Rattle.std.proofs.Common.{◌≡◌, ℕ, zero, suc, ◌+◌, ◌*◌, ◌≤◌, ◌⊎◌, inl, inr, List, [], ◌++◌, length, get_or, refl, sym, ap, ◌∙◌, append_assoc, append-nil, arith}
 use Rattle.std.specs.Prelude.{decimal, IsTrue}
 use Rattle.ext_algebra.specs.Algebra.{is_algebra}
 use Rattle.normal_forms.specs.declared.family.Family.{Family}
@@ -244,7 +244,7 @@ either : (kind n : ℕ) → kind ≤ n → (n ≡ kind) ⊎ (suc kind ≤ n)
 either zero zero le = inl refl
 either zero (suc n) le = inr (omega arith)
 either (suc k) zero le = absurd (omega (arith, le))
-either (suc k) (suc n) le = elim (either k n (omega (arith, le))) [ | inl e ↦ inl (omega (arith, e)) | inr lt ↦ inr (omega (arith, lt)) ]
+either (suc k) (suc n) le = elim (either k n (omega (arith, le))) [ inl e ↦ inl (omega (arith, e)) | inr lt ↦ inr (omega (arith, lt)) ]
 
 -- a stop among the later kinds, where no answer of this kind has a first line that stands at the front
 pub stop_later : (kind : ℕ) (bytes : List ℕ) (left : ℕ) → ((a : Answer) → IsWellFormedAnswer a → kind_of a ≡ kind → IsApart (answer_text a) bytes) → IsStop (IsFromKind (suc kind)) answer_text bytes left → IsStop (IsFromKind kind) answer_text bytes left

@@ -1,29 +1,26 @@
 -- The lines from `order` to the jet, one after the other.
-use Rattle.std.proofs.Common.{◌≡◌, ℕ, ◌*◌, ◌<◌, ◌≤◌, ◌^◌, true, List, [], ◌∷◌, ◌++◌, length, refl, sym, ap, ◌∙◌, subst, append_assoc, append-nil, arith, lit<}
+use Rattle.std.proofs.Common.{◌≡◌, ℕ, ◌*◌, ◌≤◌, true, List, [], ◌++◌, length, refl, sym, ap, ◌∙◌, subst, append_assoc, append-nil, arith, lit<}
 use Rattle.std.specs.Prelude.{decimal, IsTrue}
 use Rattle.std.specs.List.{AllByRecursion, list_all}
 use Rattle.ext_algebra.specs.declared.algebra.Algebra.{Algebra}
 use Rattle.ext_algebra.specs.declared.algebra.Algebra.TheVariants.{Rational}
 use Rattle.ext_algebra.specs.Algebra.{is_algebra, is_element}
 use Rattle.jet_poly.specs.JetTerms.{JetTerms}
-use Rattle.coord_change.specs.declared.change.Change.{Change}
 use Rattle.poly_text.specs.Polynomials.{jet_text}
 use Rattle.cert_text.specs.declared.report.Carried.{Carried}
 use Rattle.cert_text.specs.declared.word.Word.{Word}
 use Rattle.cert_text.specs.declared.word.Word.TheVariants as words
 use Rattle.cert_text.specs.Words.{word_text}
-use Rattle.cert_text.specs.Text.{line, word_line, algebra_text, parts_text, rows_text, carried_text}
+use Rattle.cert_text.specs.Text.{line, word_line, algebra_text, rows_text, carried_text}
 use Rattle.cert_text.specs.BadText.{IsWholeLines}
 use Rattle.cert_text.specs.WellFormed.{IsJetOf, IsPartOf, IsWellFormedCarried}
-use Rattle.cert_law.specs.Unique.{IsSelfEnding}
 use Rattle.cert_law.specs.Fields.{Element}
-use Rattle.cert_law.proofs.Cut.{same_front}
 use Rattle.cert_law.proofs.Carrying.{algebra_line}
 use Rattle.report_reader.specs.declared.frame.Frame.{Frame}
 use Rattle.report_reader.specs.declared.frame.Parts.{Parts}
 use Rattle.report_reader.specs.Lines.{IsWithin}
 use Rattle.report_reader.specs.Blocks.{IsStop, IsNotAtFront}
-use Rattle.report_reader.specs.States.{IsFrame, IsFramed, AreParts, AreRowsOf, change_text, change_rest, parts_of, lines_of}
+use Rattle.report_reader.specs.States.{IsFrame, IsFramed, AreParts, AreRowsOf, change_text, change_rest, parts_of}
 use Rattle.report_reader.proofs.Fronts.{line-word, line-word_line}
 use Rattle.report_reader.proofs.Shown.{shows-clean, shows-jet, shows-algebra}
 use Rattle.report_reader.proofs.Stops.{IsLine, IsPair, stop_here, stop_behind, stop_before, pair_first, pair_second, whole-append, whole-line}

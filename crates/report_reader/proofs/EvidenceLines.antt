@@ -1,9 +1,8 @@
 -- The rows of units, of Mather's condition and of the table.
-use Rattle.std.proofs.Common.{◌≡◌, ℕ, zero, suc, ◌+◌, ◌<◌, ◌≤◌, ◌^◌, Bool, true, false, eqb, leb, ◌&&◌, pos, List, [], ◌∷◌, ◌++◌, length, drop, refl, sym, ap, ◌∙◌, subst, append_assoc, append-nil, arith, lit<}
-use Rattle.std.specs.Prelude.{decimal, codes, sum, IsTrue}
-use Rattle.std.specs.List.{AllByRecursion, flat_map, list_all}
+use Rattle.std.proofs.Common.{◌≡◌, ℕ, zero, suc, ◌<◌, ◌≤◌, ◌^◌, Bool, true, false, eqb, leb, ◌&&◌, List, [], ◌∷◌, ◌++◌, refl, arith, lit<}
+use Rattle.std.specs.Prelude.{codes, sum}
+use Rattle.std.specs.List.{AllByRecursion, flat_map}
 use Rattle.std.proofs.lemmas.Bool.{leb-true}
-use Rattle.ring_law.specs.declared.fraction.Frac.{Frac}
 use Rattle.ext_algebra.specs.declared.algebra.Algebra.{Algebra}
 use Rattle.ext_algebra.specs.Algebra.{is_element}
 use Rattle.mono_exp.specs.declared.exponent.Exp.{Exp}
@@ -12,10 +11,7 @@ use Rattle.determinacy.specs.declared.row.MatherRow.{MatherRow}
 use Rattle.milnor_alg.specs.declared.quotient.TableRow.{TableRow}
 use Rattle.poly_text.specs.Numbers.{element_text}
 use Rattle.poly_text.specs.Polynomials.{monomial_text, jet_text}
-use Rattle.cert_text.specs.declared.word.Word.{Word}
-use Rattle.cert_text.specs.declared.word.Word.TheVariants as words
-use Rattle.cert_text.specs.Words.{word_text}
-use Rattle.cert_text.specs.Text.{line, word_line, unit_text, multipliers_text, mather_text, table_text}
+use Rattle.cert_text.specs.Text.{unit_text, multipliers_text, mather_text, table_text}
 use Rattle.cert_text.specs.WellFormed.{is_monomial_in, IsJetOf}
 use Rattle.cert_law.specs.Unique.{IsSelfEnding}
 use Rattle.cert_law.specs.Fields.{Element, UnitPair, IsSmallElement, IsUnitLine, IsMonomial, IsReadableJet, AreJets, IsRow, IsTableLine}
@@ -24,17 +20,16 @@ use Rattle.cert_law.proofs.Valid.{both, all_from, all_to, element_by, monomial_b
 use Rattle.cert_law.proofs.Series.{mather_line, table_line}
 use Rattle.cert_law.proofs.Carrying.{readable}
 use Rattle.cert_law.proofs.Reporting.{unit_by}
-use Rattle.row_reader.specs.Values.{IsUnitPair, unit_inside, IsResidual, AreElements, values_text}
+use Rattle.row_reader.specs.Values.{IsUnitPair, unit_inside, IsResidual, values_text}
 use Rattle.row_reader.specs.Rows.{AreJetsOf, IsRowOf, mather_inside, IsTableRowOf, table_inside}
 use Rattle.report_reader.specs.declared.frame.Frame.{Frame}
-use Rattle.report_reader.specs.Lines.{IsClean, IsWithin}
-use Rattle.report_reader.specs.Blocks.{IsStop, IsNotAtFront}
-use Rattle.report_reader.specs.Rows.{AreMany, AreAtMost, counted_text, most_rows}
+use Rattle.report_reader.specs.Lines.{IsClean}
+use Rattle.report_reader.specs.Rows.{AreMany, most_rows}
 use Rattle.report_reader.specs.States.{IsFrame}
 use Rattle.report_reader.proofs.Fronts.{clean-append, line-line}
 use Rattle.report_reader.proofs.Shown.{shows-clean, shows-element, shows-monomial, shows-jet}
-use Rattle.report_reader.proofs.Stops.{IsLine, IsPair, pair_first, pair_second}
-use Rattle.report_reader.proofs.RowLines.{many_copies, counted_pair, line_stop, number_is_line}
+use Rattle.report_reader.proofs.Stops.{IsLine}
+use Rattle.report_reader.proofs.RowLines.{many_copies}
 use Rattle.report_reader.proofs.PartLines.{drop_all}
 use Rattle.report_reader.proofs.Matrix.{zeros, zeros_valid, zero_element, zero_valid, values_clean}
 

@@ -1,18 +1,17 @@
 -- Texts that stand at the front of bytes: words, lines, and values in a line.
-use Rattle.std.proofs.Common.{◌≡◌, ℕ, ◌<◌, ◌≤◌, ◌^◌, List, [], ◌∷◌, ◌++◌, length, refl, sym, ap, ◌∙◌, subst, append_assoc, arith}
+use Rattle.std.proofs.Common.{◌≡◌, ℕ, ◌<◌, ◌^◌, List, [], ◌∷◌, ◌++◌, refl, sym, ap, ◌∙◌, subst, append_assoc, arith}
 use Rattle.std.specs.List.{AllByRecursion}
 use Rattle.std.specs.Prelude.{decimal}
 use Rattle.cert_text.specs.declared.word.Word.{Word}
 use Rattle.cert_text.specs.declared.word.Word.TheVariants as words
 use Rattle.cert_text.specs.Words.{word_text}
 use Rattle.cert_text.specs.Text.{line, word_line}
-use Rattle.cert_law.proofs.Cut.{head, same_front}
 use Rattle.cert_law.proofs.Carrying.{word_rest}
-use Rattle.text_reader.specs.Reading.{IsTextOf, IsNoText}
+use Rattle.text_reader.specs.Reading.{IsNoText}
 use Rattle.text_reader.proofs.Visible.{cut_at, unsplit, digits_lack}
 use Rattle.text_reader.proofs.Fractions.{decimal_same}
 use Rattle.report_reader.specs.Lines.{IsClean, IsWithin}
-use Rattle.report_reader.specs.Blocks.{IsAtFront, IsNotAtFront}
+use Rattle.report_reader.specs.Blocks.{IsNotAtFront}
 use Rattle.report_reader.proofs.Stops.{IsLine}
 
 -- a line, and what stands behind it

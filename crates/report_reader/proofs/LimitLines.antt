@@ -1,8 +1,6 @@
 -- The lines of a limit report: the germ in new variables, and the functional.
-use Rattle.std.proofs.Common.{◌≡◌, ℕ, ◌≤◌, Bool, true, ◌&&◌, List, [], ◌∷◌, ◌++◌, length, refl, sym, ap, ◌∙◌, subst, append_assoc, append-nil, arith}
-use Rattle.std.specs.Prelude.{IsTrue, not, nat_le, sum}
-use Rattle.std.specs.List.{AllByRecursion, list_all}
-use Rattle.ext_algebra.specs.declared.algebra.Algebra.{Algebra}
+use Rattle.std.proofs.Common.{◌≡◌, ℕ, ◌&&◌, List, [], ◌++◌, refl, sym, ap, ◌∙◌, subst, append_assoc, append-nil, arith}
+use Rattle.std.specs.Prelude.{not}
 use Rattle.ext_algebra.specs.Algebra.{is_element}
 use Rattle.mono_exp.specs.declared.exponent.Exp.{Exp}
 use Rattle.cert_text.specs.declared.report.Carried.{Carried}
@@ -12,7 +10,6 @@ use Rattle.cert_text.specs.Text.{carried_text}
 use Rattle.cert_text.specs.WellFormed.{IsWellFormedCarried, IsWellFormedLimit, is_residual_monomial, is_zero_element}
 use Rattle.cert_law.specs.Fields.{Term}
 use Rattle.cert_law.proofs.Carrying.{carried_one}
-use Rattle.row_reader.specs.Values.{IsResidual, IsFunctionalValue}
 use Rattle.report_reader.specs.Blocks.{IsStop}
 use Rattle.report_reader.specs.Functional.{IsFunctional, functional_lines}
 use Rattle.report_reader.specs.Answers.{limit_rest}
@@ -62,8 +59,8 @@ pub stop_in_functional : (c : Carried) (bytes one : List ℕ) (left : ℕ) → I
 stop_in_functional c bytes one left w e s =
     pair_second IsWellFormedCarried (carried_text words.Jet) LimitOf functional_rest IsWellFormedLimit limit_rest c bytes one left limit_pair w e
     (stop_before (FunctionalOf c) functional_lines (LimitOf c) functional_rest one left
-      (λ f h. (record { carried = c; at = f.0; functional = f.1 }, (limit_made c f w h, refl), ([], sym (append-nil (functional_lines f)))))
-      (λ r h. ((r.at, r.functional), subst (λ (z : Carried). FunctionalOf z (r.at, r.functional)) h.1 (functional_in r h.0), ([], sym (append-nil (functional_rest r))))) s)
+    (λ f h. (record { carried = c; at = f.0; functional = f.1 }, (limit_made c f w h, refl), ([], sym (append-nil (functional_lines f)))))
+    (λ r h. ((r.at, r.functional), subst (λ (z : Carried). FunctionalOf z (r.at, r.functional)) h.1 (functional_in r h.0), ([], sym (append-nil (functional_rest r))))) s)
 
 pub limit_read : (c : Carried) (f : Exp × List Term) (bytes one end : List ℕ) → IsWellFormedCarried c → carried_text words.Jet c ++ one ≡ bytes → FunctionalOf c f → functional_lines f ++ end ≡ one
     → IsWellFormedLimit (record { carried = c; at = f.0; functional = f.1 }) × (limit_rest (record { carried = c; at = f.0; functional = f.1 }) ++ end ≡ bytes)

@@ -1,13 +1,10 @@
 -- A matrix by its rows.
-use Rattle.std.proofs.Common.{◌≡◌, ℕ, zero, suc, ◌+◌, ◌*◌, ◌<◌, ◌≤◌, Bool, true, false, ◌&&◌, ◌⊎◌, inl, inr, ℤ, pos, List, [], ◌∷◌, ◌++◌, length, take, drop, refl, sym, ap, ◌∙◌, subst, append_assoc, append-nil, length-append, length-drop, arith}
-use Rattle.std.specs.Prelude.{IsTrue}
+use Rattle.std.proofs.Common.{◌≡◌, ℕ, zero, suc, ◌+◌, ◌*◌, ◌<◌, ◌≤◌, Bool, true, false, ◌&&◌, inl, pos, List, [], ◌∷◌, ◌++◌, length, take, drop, refl, sym, ap, ◌∙◌, subst, append_assoc, append-nil, length-append, length-drop, arith}
 use Rattle.std.specs.List.{AllByRecursion, flat_map, list_all}
-use Rattle.std.proofs.lemmas.List.{take-append-drop, length-take-le}
+use Rattle.std.proofs.lemmas.List.{length-take-le}
 use Rattle.ring_theory.specs.Gcd as gcds
-use Rattle.ring_law.specs.declared.fraction.Frac.{Frac}
 use Rattle.ext_algebra.specs.declared.algebra.Algebra.{Algebra}
 use Rattle.ext_algebra.specs.declared.algebra.Algebra.TheVariants.{Rational, Quadratic, Cubic}
-use Rattle.ext_algebra.specs.declared.algebra.Ext.{Ext}
 use Rattle.ext_algebra.specs.Algebra.{is_element}
 use Rattle.poly_text.specs.Numbers.{element_text}
 use Rattle.cert_text.specs.Text.{line, spaced, rows_text}
@@ -24,9 +21,9 @@ use Rattle.report_reader.specs.Blocks.{IsStop, IsNotAtFront}
 use Rattle.report_reader.specs.Rows.{AreMany}
 use Rattle.report_reader.specs.States.{AreRowsOf}
 use Rattle.report_reader.proofs.Fronts.{clean-append, line-line, line_text}
-use Rattle.report_reader.proofs.Shown.{Shows, shows-clean, shows-element}
+use Rattle.report_reader.proofs.Shown.{shows-clean, shows-element}
 use Rattle.report_reader.proofs.Stops.{IsLine, stop_before, whole-append, whole-line}
-use Rattle.report_reader.proofs.RowLines.{rows_stop, many_copies}
+use Rattle.report_reader.proofs.RowLines.{rows_stop}
 
 -- the line of a row
 abbrev pub row_line : List Element → List ℕ

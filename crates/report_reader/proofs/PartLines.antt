@@ -1,22 +1,20 @@
 -- The lines of the parts of a change.
-use Rattle.std.proofs.Common.{◌≡◌, ℕ, zero, suc, ◌+◌, ◌-◌, ◌<◌, ◌≤◌, Bool, true, false, eqb, ltb, leb, not, ◌&&◌, ◌⊎◌, inl, inr, List, [], ◌∷◌, ◌++◌, length, drop, refl, sym, ap, ◌∙◌, subst, append_assoc, append-nil, length-append, arith}
-use Rattle.std.specs.Prelude.{codes, map, sum, IsTrue}
+use Rattle.std.proofs.Common.{◌≡◌, ℕ, zero, suc, ◌+◌, ◌-◌, ◌<◌, ◌≤◌, Bool, true, false, eqb, leb, not, ◌&&◌, inl, List, [], ◌∷◌, ◌++◌, length, drop, refl, sym, ap, ◌∙◌, subst, append_assoc, append-nil, length-append, arith}
+use Rattle.std.specs.Prelude.{codes, sum}
 use Rattle.std.specs.List.{AllByRecursion, list_all}
-use Rattle.ring_law.specs.declared.fraction.Frac.{Frac}
 use Rattle.ext_algebra.specs.declared.algebra.Algebra.{Algebra}
-use Rattle.ext_algebra.specs.Algebra.{is_algebra, is_element}
+use Rattle.ext_algebra.specs.Algebra.{is_element}
 use Rattle.mono_exp.specs.declared.exponent.Exp.{Exp}
 use Rattle.jet_poly.specs.JetTerms.{JetTerms}
 use Rattle.poly_text.specs.declared.name.Name.{Name}
-use Rattle.poly_text.specs.Polynomials.{name_text, jet_text, polynomial_in, new_names}
+use Rattle.poly_text.specs.Polynomials.{name_text, jet_text, polynomial_in}
 use Rattle.cert_text.specs.declared.word.Word.TheVariants as words
 use Rattle.cert_text.specs.Words.{word_text}
 use Rattle.cert_text.specs.Text.{line, part_text, parts_text}
 use Rattle.cert_text.specs.BadText.{IsWholeLines}
-use Rattle.cert_text.specs.WellFormed.{is_valid_name, is_monomial_in, is_term_of, is_zero_element, has_no_constant, IsJetOf, IsPartOf}
+use Rattle.cert_text.specs.WellFormed.{is_valid_name, is_monomial_in, is_term_of, is_zero_element, IsPartOf}
 use Rattle.cert_law.specs.Unique.{IsSelfEnding}
 use Rattle.cert_law.specs.Fields.{Element, Term, IsPolynomial, IsReadableJet}
-use Rattle.cert_law.proofs.Cut.{head, same_front}
 use Rattle.cert_law.proofs.Valid.{both, all_to, polynomial_by}
 use Rattle.cert_law.proofs.Parts as law
 use Rattle.cert_law.proofs.Carrying.{part_lines, jets_same, readable}

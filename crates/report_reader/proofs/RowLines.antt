@@ -6,9 +6,8 @@ use Rattle.cert_text.specs.declared.word.Word.{Word}
 use Rattle.cert_text.specs.Text.{word_line}
 use Rattle.cert_text.specs.BadText.{IsWholeLines}
 use Rattle.cert_law.specs.Unique.{IsSelfEnding}
-use Rattle.cert_law.proofs.Cut.{same_front}
 use Rattle.cert_law.proofs.Carrying.{number_line}
-use Rattle.report_reader.specs.Lines.{IsWithin, IsClean}
+use Rattle.report_reader.specs.Lines.{IsWithin}
 use Rattle.report_reader.specs.Blocks.{IsStop, IsNotAtFront}
 use Rattle.report_reader.specs.Rows.{AreMany, AreAtMost, counted_text}
 use Rattle.report_reader.proofs.Fronts.{line-word_line, within_clean}

@@ -1,17 +1,15 @@
 -- The bytes of the texts of values are visible: no blank and no newline stands in them.
-use Rattle.std.proofs.Common.{◌≡◌, ℕ, suc, ◌+◌, ◌<◌, ◌≤◌, ◌^◌, Bool, true, false, cond, eqb, ◌&&◌, ℤ, pos, negsuc, List, [], ◌∷◌, ◌++◌, length, take, refl, sym, ap, ◌∙◌, subst, arith}
-use Rattle.std.specs.Prelude.{decimal, codes, sum}
+use Rattle.std.proofs.Common.{◌≡◌, ℕ, suc, ◌<◌, ◌≤◌, ◌^◌, Bool, true, false, cond, eqb, ◌&&◌, ℤ, pos, negsuc, List, [], ◌∷◌, ◌++◌, take, sym, subst, arith}
+use Rattle.std.specs.Prelude.{decimal, codes}
 use Rattle.std.specs.Fmt.{signed_decimal}
-use Rattle.std.specs.List.{AllByRecursion, flat_map, list_all}
+use Rattle.std.specs.List.{AllByRecursion, flat_map}
 use Rattle.ring_law.specs.declared.fraction.Frac.{Frac}
 use Rattle.ext_algebra.specs.declared.algebra.Algebra.{Algebra}
 use Rattle.ext_algebra.specs.declared.algebra.Algebra.TheVariants.{Rational, Quadratic, Cubic}
-use Rattle.ext_algebra.specs.declared.algebra.Ext.{Ext}
 use Rattle.ext_algebra.specs.Fractions.{is_frac}
-use Rattle.ext_algebra.specs.Algebra.{is_algebra, is_element}
+use Rattle.ext_algebra.specs.Algebra.{is_algebra}
 use Rattle.mono_exp.specs.declared.exponent.Exp.{Exp}
 use Rattle.jet_poly.specs.JetTerms.{JetTerms}
-use Rattle.line_syntax.specs.Syntax.{is_name}
 use Rattle.poly_text.specs.declared.name.Name.{Name}
 use Rattle.poly_text.specs.Numbers.{is_whole, over_text, fraction_text, product_text, signed_text, component, components_text, element_text, without_plus, is_zero_fraction, is_rational_of, component_count_of, scaled_text}
 use Rattle.poly_text.specs.Polynomials.{name_text, is_one, exponent_text, factor_text, factors_text, without_star, monomial_in, monomial_text, term_in, polynomial_in, new_names, jet_text}

@@ -1,10 +1,10 @@
 -- Stops of blocks: at the first line, behind a line, in the first of two blocks.
-use Rattle.std.proofs.Common.{◌≡◌, ℕ, zero, suc, ◌+◌, ◌<◌, ◌≤◌, ◌⊎◌, inl, inr, List, [], ◌∷◌, ◌++◌, length, refl, sym, ap, ◌∙◌, subst, append_assoc, length-append, arith}
+use Rattle.std.proofs.Common.{◌≡◌, ℕ, zero, suc, ◌<◌, ◌≤◌, ◌⊎◌, inl, inr, List, [], ◌∷◌, ◌++◌, length, refl, sym, ap, ◌∙◌, subst, append_assoc, length-append, arith}
 use Rattle.cert_text.specs.BadText.{IsWholeLines}
 use Rattle.cert_law.specs.Unique.{IsSelfEnding}
 use Rattle.cert_law.proofs.Cut.{head, same_front}
 use Rattle.report_reader.specs.Lines.{IsClean}
-use Rattle.report_reader.specs.Blocks.{Begins, IsStop, IsHalt}
+use Rattle.report_reader.specs.Blocks.{IsStop, IsHalt}
 use Rattle.report_reader.specs.declared.halt.Halt.{Halt}
 use Rattle.report_reader.specs.declared.halt.Halt.TheVariants as halts
 

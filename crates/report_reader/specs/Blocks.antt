@@ -1,5 +1,5 @@
 -- Blocks of lines: what begins one, and where bytes leave off being like one.
-use Rattle.std.specs.Prelude.{◌≡◌, ℕ, ◌<◌, List, [], ◌∷◌, ◌++◌, length}
+use Rattle.std.specs.Prelude.{◌≡◌, ℕ, ◌<◌, List, ◌++◌, length}
 use Rattle.std.specs.Borrow.{Bor}
 use Rattle.cert_text.specs.BadText.{IsWholeLines}
 use Rattle.report_reader.specs.declared.halt.Halt.{Halt}

@@ -1,24 +1,18 @@
 -- What is known of an answer with a jet when some of its lines are read, and the texts that follow.
-use Rattle.std.specs.Prelude.{◌≡◌, ℕ, ◌<◌, ◌≤◌, ◌^◌, IsTrue, List, ◌∷◌, ◌++◌, length, decimal}
-use Rattle.std.specs.List.{AllByRecursion, flat_map}
-use Rattle.ring_law.specs.declared.fraction.Frac.{Frac}
-use Rattle.ext_algebra.specs.declared.algebra.Ext.{Ext}
+use Rattle.std.specs.Prelude.{◌≡◌, ℕ, ◌<◌, ◌≤◌, ◌^◌, IsTrue, List, ◌++◌, length, decimal}
 use Rattle.mono_exp.specs.declared.exponent.Exp.{Exp}
 use Rattle.normal_forms.specs.declared.family.Family.{Family}
-use Rattle.poly_text.specs.Polynomials.{monomial_text}
 use Rattle.cert_text.specs.declared.report.Carried.{Carried}
 use Rattle.cert_text.specs.declared.report.Named as named_type
 use Rattle.cert_text.specs.declared.report.Unresolved as unresolved_type
 use Rattle.cert_text.specs.declared.word.Word.TheVariants as words
-use Rattle.cert_text.specs.Words.{word_text}
 use Rattle.cert_text.specs.Text.{line, word_line, carried_text, unit_text, modulus_text, mather_text, table_text}
-use Rattle.cert_text.specs.WellFormed.{IsWellFormedCarried, IsWellFormedNamed, IsWellFormedUnresolved, is_valid_modulus}
+use Rattle.cert_text.specs.WellFormed.{IsWellFormedCarried, IsWellFormedNamed, is_valid_modulus}
 use Rattle.row_reader.specs.Values.{IsUnitPair, AreResidual, basis_inside}
-use Rattle.row_reader.specs.Rows.{IsRowOf, IsTableRowOf}
 use Rattle.report_reader.specs.declared.frame.Frame.{Frame}
 use Rattle.report_reader.specs.declared.named.Front.{Front}
 use Rattle.report_reader.specs.Lines.{IsFamily}
-use Rattle.report_reader.specs.Rows.{AreAtMost, counted_text, most_rows}
+use Rattle.report_reader.specs.Rows.{AreAtMost, counted_text}
 
 -- the order, the algebra and the corank
 abbrev pub frame_of : Carried → Frame

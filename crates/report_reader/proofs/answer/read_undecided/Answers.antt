@@ -1,12 +1,10 @@
-use Rattle.std.proofs.Common.{refl, ℕ, List}
-use Rattle.cert_text.specs.declared.word.Word.TheVariants as words
-use Rattle.cert_text.specs.Text.{answer_text, carried_text}
-use Rattle.cert_text.specs.WellFormed.{IsWellFormedAnswer, IsWellFormedCarried, IsWellFormedLimit, IsWellFormedUnresolved}
-use Rattle.report_reader.specs.Evidence.{IsOfFamily, named_rest, unresolved_rest}
+use Rattle.std.proofs.Common.{refl}
+use Rattle.cert_text.specs.Text.{answer_text}
+use Rattle.cert_text.specs.WellFormed.{IsWellFormedLimit}
 use Rattle.report_reader.specs.Answers.{IsFromKind, limit_rest}
 use Rattle.report_reader.proofs.Found.{ok_map, err_map}
 use Rattle.report_reader.proofs.Stops.{halt_map}
-use Rattle.report_reader.proofs.AnswerLines.{stop_in_named, named_is, stop_in_outside, outside_is, stop_in_limit, limit_is, stop_in_last, last_is, stop_at_last, stop_later, limit_apart, outside_apart, named_apart, short_apart, stop_any, placed_is, unplaced_is, later_is}
+use Rattle.report_reader.proofs.AnswerLines.{stop_in_limit, limit_is, stop_later, limit_apart, later_is}
 use Rattle.report_reader.proofs.answer.read_undecided.Goals as goal
 
 pub returns-in-None-clause-ok : goal.returns-in-None-clause-ok

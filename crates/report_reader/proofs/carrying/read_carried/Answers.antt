@@ -1,10 +1,10 @@
-use Rattle.std.proofs.Common.{◌≡◌, refl, ℕ, List}
+use Rattle.std.proofs.Common.{refl}
 use Rattle.cert_text.specs.Text.{carried_text}
 use Rattle.cert_text.specs.WellFormed.{IsWellFormedCarried}
 use Rattle.report_reader.specs.declared.frame.Frame.{Frame}
-use Rattle.report_reader.specs.States.{IsFrame, IsFramed, change_rest}
+use Rattle.report_reader.specs.States.{IsFramed, change_rest}
 use Rattle.report_reader.proofs.Found.{ok_map, err_map}
-use Rattle.report_reader.proofs.CarriedLines.{FrameRead, frame_is, stop_at_order, stop_at_algebra, stop_at_corank, stop_at_change, stop_behind_change, carried_read}
+use Rattle.report_reader.proofs.CarriedLines.{FrameRead, stop_at_order, stop_at_algebra, stop_at_corank, stop_at_change, stop_behind_change, carried_read}
 use Rattle.report_reader.proofs.carrying.read_carried.Goals as goal
 
 pub returns-in-None-clause-halt : goal.returns-in-None-clause-halt

@@ -1,4 +1,4 @@
-use Rattle.std.proofs.Common.{refl, [], arith}
+use Rattle.std.proofs.Common.{[], arith}
 use Rattle.report_reader.proofs.Found.{some_is}
 use Rattle.report_reader.proofs.PartLines.{many_none, many_more, more_lines, no_lines}
 use Rattle.report_reader.specs.States.{pushed}

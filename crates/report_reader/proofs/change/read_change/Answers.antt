@@ -1,4 +1,3 @@
-use Rattle.std.proofs.Common.{◌≡◌, refl, sym, ◌∙◌, length, arith, ℕ, List}
 use Rattle.cert_text.specs.Text.{rows_text}
 use Rattle.report_reader.specs.States.{IsFramed, AreParts, AreRowsOf, change_text, change_rest}
 use Rattle.report_reader.proofs.Found.{some_is}

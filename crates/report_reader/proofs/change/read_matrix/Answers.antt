@@ -1,10 +1,8 @@
-use Rattle.std.proofs.Common.{◌≡◌, ℕ, List, [], ◌∷◌, ◌++◌, refl, ap, subst, sym, arith}
-use Rattle.cert_law.specs.Fields.{Element}
+use Rattle.std.proofs.Common.{[], ◌∷◌, ◌++◌, refl, arith}
 use Rattle.row_reader.specs.Values.{AreElements}
-use Rattle.report_reader.specs.Rows.{AreMany}
 use Rattle.report_reader.proofs.Found.{some_is}
 use Rattle.report_reader.proofs.RowLines.{many_more}
-use Rattle.report_reader.proofs.Matrix.{row_line, joined, joined_more, matrix_stop, matrix_read}
+use Rattle.report_reader.proofs.Matrix.{row_line, joined_more, matrix_stop, matrix_read}
 use Rattle.report_reader.proofs.change.read_matrix.Goals as goal
 
 pub loop-count-init : goal.loop-count-init

@@ -1,8 +1,7 @@
-use Rattle.std.proofs.Common.{refl, subst, sym, ◌≡◌, arith}
-use Rattle.report_reader.specs.declared.frame.Parts.{Parts}
+use Rattle.std.proofs.Common.{arith}
 use Rattle.report_reader.proofs.Found.{some_is}
 use Rattle.report_reader.proofs.PartLines.{many_same_value, many_start, many_more, more_lines, too_few}
-use Rattle.report_reader.specs.States.{pushed, AreSoMany, lines_of}
+use Rattle.report_reader.specs.States.{pushed}
 use Rattle.report_reader.proofs.change.take_parts.Goals as goal
 
 pub loop-count-init : goal.loop-count-init

@@ -1,4 +1,4 @@
-use Rattle.report_reader.proofs.FunctionalLines.{number_below, residual_of}
+use Rattle.report_reader.proofs.FunctionalLines.{residual_of}
 use Rattle.report_reader.proofs.functional.number.Goals as goal
 
 pub rank-requires-clause-unused : goal.rank-requires-clause-unused

@@ -1,5 +1,4 @@
-use Rattle.std.proofs.Common.{◌≡◌, ℕ, sym, subst, arith}
-use Rattle.report_reader.specs.Functional.{number_limit}
+use Rattle.std.proofs.Common.{arith}
 use Rattle.report_reader.proofs.FunctionalLines.{limit0, limit1, limit2, limit3, limit4, limit5, limit6, limit7, limit8, limit_there}
 use Rattle.report_reader.proofs.functional.number_limit_of.Goals as goal
 

@@ -1,8 +1,8 @@
-use Rattle.std.proofs.Common.{◌≡◌, ℕ, suc, ◌+◌, ◌-◌, ◌<◌, ◌++◌, ◌∷◌, [], List, length, length-append, refl, sym, ap, subst, ◌∙◌, arith}
+use Rattle.std.proofs.Common.{◌≡◌, ℕ, suc, ◌+◌, ◌-◌, ◌++◌, ◌∷◌, [], List, length, length-append, refl, sym, ap, subst, ◌∙◌, arith}
 use Rattle.std.specs.List.{flat_map}
 use Rattle.cert_text.specs.Text.{functional_text}
 use Rattle.report_reader.specs.Functional.{Term, number_of}
-use Rattle.report_reader.proofs.FunctionalLines.{AreDone, done_all, done_push, pushed_text, value_residual, values_stop, number_below, number_fits}
+use Rattle.report_reader.proofs.FunctionalLines.{AreDone, done_all, done_push, pushed_text, value_residual, values_stop, number_fits}
 use Rattle.report_reader.proofs.functional.read_values.Goals as goal
 
 pub loop-i-init : goal.loop-i-init

@@ -1,4 +1,4 @@
-use Rattle.std.proofs.Common.{refl, sym, ap, ◌∙◌, ◌++◌}
+use Rattle.std.proofs.Common.{refl}
 use Rattle.cert_text.specs.declared.word.Word.TheVariants as words
 use Rattle.report_reader.specs.Functional.{IsHead}
 use Rattle.report_reader.specs.Lines.{counted_monomial_text}

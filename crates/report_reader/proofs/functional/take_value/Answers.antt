@@ -1,4 +1,4 @@
-use Rattle.std.proofs.Common.{refl, sym, ◌∙◌}
+use Rattle.std.proofs.Common.{refl}
 use Rattle.cert_text.specs.Text.{functional_text}
 use Rattle.row_reader.specs.Values.{functional_inside}
 use Rattle.report_reader.specs.Functional.{IsLater}

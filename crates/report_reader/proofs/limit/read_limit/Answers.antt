@@ -1,4 +1,3 @@
-use Rattle.std.proofs.Common.{refl}
 use Rattle.cert_text.specs.declared.word.Word.TheVariants as words
 use Rattle.cert_text.specs.Text.{carried_text}
 use Rattle.cert_text.specs.WellFormed.{IsWellFormedCarried, IsWellFormedLimit}

@@ -1,4 +1,4 @@
-use Rattle.std.proofs.Common.{refl, ◌≤◌, ◌<◌, ◌^◌, arith}
+use Rattle.std.proofs.Common.{refl, ◌<◌, ◌^◌, arith}
 use Rattle.std.specs.Prelude.{decimal}
 use Rattle.report_reader.specs.Lines.{IsWithin}
 use Rattle.report_reader.proofs.Fronts.{value_at, line_absent, within_clean, within_none, no_u64}

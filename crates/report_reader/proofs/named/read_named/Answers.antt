@@ -1,14 +1,14 @@
-use Rattle.std.proofs.Common.{◌≡◌, ◌<◌, ◌^◌, ℕ, List, refl, arith}
+use Rattle.std.proofs.Common.{refl}
 use Rattle.cert_text.specs.declared.word.Word.TheVariants as words
-use Rattle.cert_text.specs.Text.{carried_text, unit_text, mather_text}
-use Rattle.cert_text.specs.WellFormed.{IsWellFormedCarried, IsWellFormedUnresolved}
+use Rattle.cert_text.specs.Text.{carried_text, unit_text}
+use Rattle.cert_text.specs.WellFormed.{IsWellFormedCarried}
 use Rattle.row_reader.specs.Values.{IsUnitPair}
 use Rattle.report_reader.specs.declared.named.Front.{Front}
 use Rattle.report_reader.specs.Rows.{AreAtMost, counted_text}
-use Rattle.report_reader.specs.Evidence.{IsOfFamily, IsNamedAs, named_rest, mather_rest, unresolved_rest}
+use Rattle.report_reader.specs.Evidence.{IsOfFamily, IsNamedAs, named_rest, mather_rest}
 use Rattle.report_reader.proofs.Found.{ok_map, err_map}
 use Rattle.report_reader.proofs.Stops.{halt_map}
-use Rattle.report_reader.proofs.NamedLines.{ModulusRead, MatherOf, stop_in_carried, stop_in_units, stop_at_modulus, stop_at_milnor, stop_in_evidence, named_read, stop_in_jet, stop_in_unresolved, unresolved_read}
+use Rattle.report_reader.proofs.NamedLines.{ModulusRead, stop_in_carried, stop_in_units, stop_at_modulus, stop_at_milnor, stop_in_evidence, named_read}
 use Rattle.report_reader.proofs.named.read_named.Goals as goal
 
 pub returns-in-Err-clause-halt : goal.returns-in-Err-clause-halt

@@ -1,10 +1,6 @@
-use Rattle.std.proofs.Common.{◌≡◌, ◌≤◌, ℕ, List, length, refl, sym, subst, arith, eqb, true, false}
-use Rattle.std.specs.Prelude.{IsTrue}
-use Rattle.mono_exp.specs.declared.exponent.Exp.{Exp}
+use Rattle.std.proofs.Common.{ℕ, refl, sym, subst}
 use Rattle.row_reader.specs.Values.{AreResidual, basis_inside}
 use Rattle.report_reader.specs.Lines.{IsWithin}
-use Rattle.report_reader.specs.Blocks.{IsNotAtFront}
-use Rattle.report_reader.specs.Evidence.{IsBasis, basis_line}
 use Rattle.report_reader.proofs.Fronts.{no_line_at, line_value_at, line_front}
 use Rattle.report_reader.proofs.Found.{some_is, not_both}
 use Rattle.report_reader.proofs.NamedLines.{basis_clean, basis_size}

@@ -1,5 +1,5 @@
-use Rattle.std.proofs.Common.{◌≡◌, ◌<◌, ◌≤◌, ◌^◌, ℕ, refl, arith}
-use Rattle.std.specs.Prelude.{decimal, IsTrue}
+use Rattle.std.proofs.Common.{◌<◌, ◌^◌, refl, arith}
+use Rattle.std.specs.Prelude.{decimal}
 use Rattle.poly_text.specs.Polynomials.{monomial_text}
 use Rattle.row_reader.specs.Values.{IsResidual}
 use Rattle.text_reader.proofs.Visible.{no_byte}

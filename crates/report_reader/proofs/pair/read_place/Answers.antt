@@ -1,5 +1,5 @@
-use Rattle.std.proofs.Common.{◌≡◌, ◌<◌, ◌≤◌, ◌^◌, ℕ, refl, arith}
-use Rattle.std.specs.Prelude.{decimal, IsTrue}
+use Rattle.std.proofs.Common.{◌<◌, ◌^◌, refl, arith}
+use Rattle.std.specs.Prelude.{decimal}
 use Rattle.cert_text.specs.Names.{what_text}
 use Rattle.text_reader.specs.Reading.{IsAny}
 use Rattle.text_reader.proofs.Visible.{digits_lack}

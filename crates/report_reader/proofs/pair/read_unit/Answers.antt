@@ -1,5 +1,5 @@
-use Rattle.std.proofs.Common.{◌≡◌, ◌<◌, ◌≤◌, ◌^◌, ℕ, refl, arith}
-use Rattle.std.specs.Prelude.{decimal, IsTrue}
+use Rattle.std.proofs.Common.{refl, arith}
+use Rattle.std.specs.Prelude.{IsTrue}
 use Rattle.ext_algebra.specs.Algebra.{is_element}
 use Rattle.poly_text.specs.Numbers.{element_text}
 use Rattle.cert_law.proofs.Valid.{both, element_by}

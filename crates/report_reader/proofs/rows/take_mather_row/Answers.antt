@@ -1,14 +1,9 @@
-use Rattle.std.proofs.Common.{◌≡◌, ℕ, ◌≤◌, List, [], ◌∷◌, ◌++◌, refl, arith, lit<}
-use Rattle.std.specs.List.{flat_map}
-use Rattle.cert_text.specs.declared.word.Word.TheVariants as words
-use Rattle.cert_text.specs.Text.{unit_text, mather_text, table_text}
-use Rattle.row_reader.specs.Values.{IsUnitPair, unit_inside}
-use Rattle.row_reader.specs.Rows.{IsRowOf, mather_inside, IsTableRowOf, table_inside}
-use Rattle.report_reader.specs.Rows.{AreMany, AreAtMost, counted_text, most_rows}
+use Rattle.std.proofs.Common.{refl}
+use Rattle.cert_text.specs.Text.{mather_text}
+use Rattle.row_reader.specs.Rows.{IsRowOf, mather_inside}
 use Rattle.report_reader.proofs.Fronts.{no_line_at, line_value_at, line_front}
-use Rattle.report_reader.proofs.Found.{some_is, ok_map, err_map}
-use Rattle.report_reader.proofs.RowLines.{rows_stop, many_more, many_copies, counted_stop, behind_count, counted_read, many_none}
-use Rattle.report_reader.proofs.EvidenceLines.{unit_clean, unit_told, unit_is_line, some_unit, some_unit_valid, mather_clean, mather_told, mather_is_line, some_row, some_rows, residual_there, most_small, table_clean, table_told, table_is_line, some_table_row}
+use Rattle.report_reader.proofs.Found.{some_is}
+use Rattle.report_reader.proofs.EvidenceLines.{mather_clean}
 use Rattle.report_reader.proofs.rows.take_mather_row.Goals as goal
 
 pub returns-in-None-clause-none : goal.returns-in-None-clause-none

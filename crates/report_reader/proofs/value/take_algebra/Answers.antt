@@ -1,18 +1,10 @@
 use Rattle.std.proofs.Common.{refl}
 use Rattle.std.specs.Prelude.{IsTrue}
 use Rattle.ext_algebra.specs.Algebra.{is_algebra}
-use Rattle.poly_text.specs.Polynomials.{name_text}
 use Rattle.cert_text.specs.declared.word.Word.TheVariants as words
-use Rattle.cert_text.specs.Names.{family_text, pattern_text, phase_text}
-use Rattle.cert_text.specs.Text.{algebra_text, modulus_text}
-use Rattle.cert_text.specs.WellFormed.{is_valid_name, is_valid_modulus, is_extension}
-use Rattle.cert_law.proofs.Valid.{both}
-use Rattle.text_reader.specs.Reading.{IsAny}
-use Rattle.text_reader.specs.Moduli.{IsExtension}
-use Rattle.report_reader.specs.Lines.{IsFamily}
+use Rattle.cert_text.specs.Text.{algebra_text}
 use Rattle.report_reader.proofs.Fronts.{value_at, line_absent}
-use Rattle.report_reader.proofs.Shown.{shows-clean, shows-algebra, shows-name}
-use Rattle.report_reader.proofs.Words.{family_clean, pattern_clean, phase_clean, modulus_clean}
+use Rattle.report_reader.proofs.Shown.{shows-clean, shows-algebra}
 use Rattle.report_reader.proofs.value.take_algebra.Goals as goal
 
 pub returns-in-None-clause-none : goal.returns-in-None-clause-none
