@@ -1,0 +1,5 @@
+pub mod Found
+pub mod Outcomes
+pub mod Items
+pub mod Heights
+pub mod Laws
