@@ -1,0 +1,16 @@
+pub mod Stops
+pub mod Fronts
+pub mod Shown
+pub mod Words
+pub mod PartLines
+pub mod Found
+pub mod RowLines
+pub mod Matrix
+pub mod CarriedLines
+pub mod EvidenceLines
+pub mod NamedLines
+pub mod AnswerLines
+pub mod LimitLines
+pub mod FunctionalLines
+pub mod WholeLines
+pub mod WholeReports
