@@ -11,3 +11,4 @@ pub mod EvidenceLines
 pub mod NamedLines
 pub mod AnswerLines
 pub mod LimitLines
+pub mod FunctionalLines
