@@ -244,7 +244,7 @@ either : (kind n : ℕ) → kind ≤ n → (n ≡ kind) ⊎ (suc kind ≤ n)
 either zero zero le = inl refl
 either zero (suc n) le = inr (omega arith)
 either (suc k) zero le = absurd (omega (arith, le))
-either (suc k) (suc n) le = elim (either k n (omega (arith, le))) [ | inl e ↦ inl (omega (arith, e)) | inr lt ↦ inr (omega (arith, lt)) ]
+either (suc k) (suc n) le = elim (either k n (omega (arith, le))) [ inl e ↦ inl (omega (arith, e)) | inr lt ↦ inr (omega (arith, lt)) ]
 
 -- a stop among the later kinds, where no answer of this kind has a first line that stands at the front
 pub stop_later : (kind : ℕ) (bytes : List ℕ) (left : ℕ) → ((a : Answer) → IsWellFormedAnswer a → kind_of a ≡ kind → IsApart (answer_text a) bytes) → IsStop (IsFromKind (suc kind)) answer_text bytes left → IsStop (IsFromKind kind) answer_text bytes left

@@ -62,8 +62,8 @@ pub stop_in_functional : (c : Carried) (bytes one : List ℕ) (left : ℕ) → I
 stop_in_functional c bytes one left w e s =
     pair_second IsWellFormedCarried (carried_text words.Jet) LimitOf functional_rest IsWellFormedLimit limit_rest c bytes one left limit_pair w e
     (stop_before (FunctionalOf c) functional_lines (LimitOf c) functional_rest one left
-      (λ f h. (record { carried = c; at = f.0; functional = f.1 }, (limit_made c f w h, refl), ([], sym (append-nil (functional_lines f)))))
-      (λ r h. ((r.at, r.functional), subst (λ (z : Carried). FunctionalOf z (r.at, r.functional)) h.1 (functional_in r h.0), ([], sym (append-nil (functional_rest r))))) s)
+    (λ f h. (record { carried = c; at = f.0; functional = f.1 }, (limit_made c f w h, refl), ([], sym (append-nil (functional_lines f)))))
+    (λ r h. ((r.at, r.functional), subst (λ (z : Carried). FunctionalOf z (r.at, r.functional)) h.1 (functional_in r h.0), ([], sym (append-nil (functional_rest r))))) s)
 
 pub limit_read : (c : Carried) (f : Exp × List Term) (bytes one end : List ℕ) → IsWellFormedCarried c → carried_text words.Jet c ++ one ≡ bytes → FunctionalOf c f → functional_lines f ++ end ≡ one
     → IsWellFormedLimit (record { carried = c; at = f.0; functional = f.1 }) × (limit_rest (record { carried = c; at = f.0; functional = f.1 }) ++ end ≡ bytes)

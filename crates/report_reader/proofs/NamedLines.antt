@@ -48,10 +48,10 @@ use Rattle.report_reader.proofs.EvidenceLines.{and_true, residual_is, one_monomi
 pub counted_told : {A : Type 0} (w : Word) (most : ℕ) (valid : A → Type 0) (text : A → List ℕ) → most < 2 ^ 64 → IsSelfEnding valid text → IsSelfEnding (AreAtMost valid most) (counted_text w text)
 counted_told w most valid text lt told = record {
   one = λ us vs x y ou ov e.
-    let a = ou.0 in
-    let b = ov.0 in
-    block_one w valid text told us vs x y (omega (arith, a, lt)) (omega (arith, b, lt)) ou.1 ov.1
-    (sym (append_assoc (word_line w (decimal (length us))) (flat_map text us) x) ∙ e ∙ append_assoc (word_line w (decimal (length vs))) (flat_map text vs) y);
+      let a = ou.0 in
+      let b = ov.0 in
+      block_one w valid text told us vs x y (omega (arith, a, lt)) (omega (arith, b, lt)) ou.1 ov.1
+      (sym (append_assoc (word_line w (decimal (length us))) (flat_map text us) x) ∙ e ∙ append_assoc (word_line w (decimal (length vs))) (flat_map text vs) y);
 }
 
 rows_whole : {A : Type 0} (valid : A → Type 0) (text : A → List ℕ) → ((a : A) → valid a → IsLine (text a)) → (xs : List A) → AllByRecursion valid xs → IsWholeLines (flat_map text xs)
@@ -202,18 +202,19 @@ stop_in_table f rows basis size bytes rest last left w same h e b d s =
     pair_second (RowsOf f) (counted_text words.Mather mather_text) (HasRows f) basis_rest (IsNamedAs f) mather_rest rows bytes rest left (mather_pair f w) h e
     (pair_second (IsBasis f.carried.corank) basis_line (λ basis r. HasRows f rows r × (r.quotient.basis ≡ basis)) table_rest (HasRows f rows) basis_rest basis rest last left (basis_pair f rows w h) b d
     (stop_before (TableOf f (length basis)) (counted_text words.Table table_text) (λ r. HasRows f rows r × (r.quotient.basis ≡ basis)) table_rest last left
-      (λ table t. (made_named f rows basis table, ((named_made f rows basis table w h b t, refl), refl), ([], sym (append-nil (counted_text words.Table table_text table)))))
-      (λ r v. (r.quotient.table, subst (λ (z : List Exp). TableOf f (length z) r.quotient.table) v.1 (table_in f r v.0.0), ([], sym (append-nil (table_rest r)))))
-      (subst (λ (k : ℕ). IsStop (TableOf f k) (counted_text words.Table table_text) last left) same s)))
+    (λ table t. (made_named f rows basis table, ((named_made f rows basis table w h b t, refl), refl), ([], sym (append-nil (counted_text words.Table table_text table)))))
+    (λ r v. (r.quotient.table, subst (λ (z : List Exp). TableOf f (length z) r.quotient.table) v.1 (table_in f r v.0.0), ([], sym (append-nil (table_rest r)))))
+    (subst (λ (k : ℕ). IsStop (TableOf f k) (counted_text words.Table table_text) last left) same s)))
 
 pub evidence_read : (f : Front) (rows : List (MatherRow Element)) (basis : List Exp) (size : ℕ) (table : List (TableRow Element)) (r : named_type.Named) (bytes rest last end : List ℕ) → IsFront f → size ≡ length basis → r ≡ made_named f rows basis table
     → RowsOf f rows → counted_text words.Mather mather_text rows ++ rest ≡ bytes → IsBasis f.carried.corank basis → basis_line basis ++ last ≡ rest → TableOf f size table → counted_text words.Table table_text table ++ end ≡ last
     → IsNamedAs f r × (mather_rest r ++ end ≡ bytes)
 unfolding mather_rest basis_rest
-evidence_read f rows basis size table r bytes rest last end w same is h e b d t q =
-    (subst (IsNamedAs f) (sym is) (named_made f rows basis table w h b (subst (λ (k : ℕ). TableOf f k table) same t)),
-      ap (λ (z : named_type.Named). mather_rest z ++ end) is ∙ append_assoc (counted_text words.Mather mather_text rows) (basis_line basis ++ counted_text words.Table table_text table) end
-      ∙ ap (λ (z : List ℕ). counted_text words.Mather mather_text rows ++ z) (append_assoc (basis_line basis) (counted_text words.Table table_text table) end ∙ ap (λ (z : List ℕ). basis_line basis ++ z) q ∙ d) ∙ e)
+evidence_read f rows basis size table r bytes rest last end w same is h e b d t q = (
+  subst (IsNamedAs f) (sym is) (named_made f rows basis table w h b (subst (λ (k : ℕ). TableOf f k table) same t)),
+  ap (λ (z : named_type.Named). mather_rest z ++ end) is ∙ append_assoc (counted_text words.Mather mather_text rows) (basis_line basis ++ counted_text words.Table table_text table) end
+      ∙ ap (λ (z : List ℕ). counted_text words.Mather mather_text rows ++ z) (append_assoc (basis_line basis) (counted_text words.Table table_text table) end ∙ ap (λ (z : List ℕ). basis_line basis ++ z) q ∙ d) ∙ e,
+)
 
 -- no line of a basis of this size
 pub basis_size : (corank : ℕ) (basis : List Exp) (text rest bytes : List ℕ) → AreResidual corank basis → basis_inside basis ≡ text → bytes ≡ text ++ 10 ∷ rest → (IsWithin 1 1140 (length basis) → ⊥) → IsNotAtFront (IsBasis corank) basis_line bytes
@@ -331,24 +332,25 @@ pub stop_in_evidence : (f : Front) (bytes three four : List ℕ) (left : ℕ) �
     → IsStop (IsNamedAs f) mather_rest four left → IsStop (IsOfFamily f.family) named_rest bytes left
 stop_in_evidence f bytes three four left r h e s = behind_modulus f.family f.carried f.units f.modulus bytes three left r
     (pair_second (IsWithin 0 4294967295) (λ k. word_line words.Milnor (decimal k)) (HasMilnor f.family f.carried f.units f.modulus) mather_rest (HasModulus f.family f.carried f.units f.modulus) milnor_rest f.milnor three four left
-      (milnor_pair f.family f.carried f.units f.modulus r.of_list r.carried r.units r.modulus) h e
+    (milnor_pair f.family f.carried f.units f.modulus r.of_list r.carried r.units r.modulus) h e
     (stop_before (IsNamedAs f) mather_rest (HasMilnor f.family f.carried f.units f.modulus f.milnor) mather_rest four left
-      (λ n v. (n, (((((v.valid, v.family), v.carried), v.units), v.modulus), v.milnor), ([], sym (append-nil (mather_rest n)))))
-      (λ n v. (n, record { valid = v.0.0.0.0.0; family = v.0.0.0.0.1; carried = v.0.0.0.1; units = v.0.0.1; modulus = v.0.1; milnor = v.1 }, ([], sym (append-nil (mather_rest n))))) s))
+    (λ n v. (n, (((((v.valid, v.family), v.carried), v.units), v.modulus), v.milnor), ([], sym (append-nil (mather_rest n)))))
+    (λ n v. (n, record { valid = v.0.0.0.0.0; family = v.0.0.0.0.1; carried = v.0.0.0.1; units = v.0.0.1; modulus = v.0.1; milnor = v.1 }, ([], sym (append-nil (mather_rest n))))) s))
 
 pub named_read : (f : Front) (n : named_type.Named) (bytes three four end : List ℕ) → ModulusRead f.family f.carried f.units f.modulus bytes three → word_line words.Milnor (decimal f.milnor) ++ four ≡ three → IsNamedAs f n → mather_rest n ++ end ≡ four
     → IsOfFamily f.family n × (named_rest n ++ end ≡ bytes)
 unfolding named_rest units_rest modulus_rest milnor_rest
-named_read f n bytes three four end r e h d =
-    ((h.valid, h.family),
-      append_assoc (carried_text words.Form n.carried) (units_rest n) end
+named_read f n bytes three four end r e h d = (
+  (h.valid, h.family),
+  append_assoc (carried_text words.Form n.carried) (units_rest n) end
       ∙ ap (λ (z : List ℕ). carried_text words.Form n.carried ++ z) (append_assoc (counted_text words.Units unit_text n.units) (modulus_rest n) end
       ∙ ap (λ (z : List ℕ). counted_text words.Units unit_text n.units ++ z) (append_assoc (word_line words.Modulus (modulus_text n.modulus)) (milnor_rest n) end
       ∙ ap (λ (z : List ℕ). word_line words.Modulus (modulus_text n.modulus) ++ z) (append_assoc (word_line words.Milnor (decimal n.milnor)) (mather_rest n) end
       ∙ ap (λ (z : List ℕ). word_line words.Milnor (decimal n.milnor) ++ z) d ∙ ap (λ (k : ℕ). word_line words.Milnor (decimal k) ++ four) h.milnor ∙ e)
       ∙ ap (λ (m : ModulusLine). word_line words.Modulus (modulus_text m) ++ three) h.modulus ∙ r.modulus_line)
       ∙ ap (λ (us : List UnitPair). counted_text words.Units unit_text us ++ r.two) h.units ∙ r.units_lines)
-      ∙ ap (λ (c : Carried). carried_text words.Form c ++ r.one) h.carried ∙ r.carried_lines)
+      ∙ ap (λ (c : Carried). carried_text words.Form c ++ r.one) h.carried ∙ r.carried_lines,
+)
 
 pub front_is : (f : Front) (bytes three : List ℕ) → ModulusRead f.family f.carried f.units f.modulus bytes three → f.milnor < 2 ^ 32 → IsFront f
 front_is f bytes three r lt = record { family = r.of_list; carried = r.carried; units = r.units; modulus = r.modulus; milnor = lt }
@@ -375,8 +377,8 @@ pub stop_in_unresolved : (c : Carried) (bytes one : List ℕ) (left : ℕ) → I
 stop_in_unresolved c bytes one left w e s =
     pair_second IsWellFormedCarried (carried_text words.Jet) UnresolvedOf (λ r. counted_text words.Mather mather_text r.mather) IsWellFormedUnresolved unresolved_rest c bytes one left unresolved_pair w e
     (stop_before (MatherOf c) (counted_text words.Mather mather_text) (UnresolvedOf c) (λ r. counted_text words.Mather mather_text r.mather) one left
-      (λ rows h. (record { carried = c; mather = rows }, (record { carried = w; mather = rows_from c rows h }, refl), ([], sym (append-nil (counted_text words.Mather mather_text rows)))))
-      (λ r h. (r.mather, subst (λ (z : Carried). MatherOf z r.mather) h.1 (rows_to r.carried r.mather h.0.mather), ([], sym (append-nil (counted_text words.Mather mather_text r.mather))))) s)
+    (λ rows h. (record { carried = c; mather = rows }, (record { carried = w; mather = rows_from c rows h }, refl), ([], sym (append-nil (counted_text words.Mather mather_text rows)))))
+    (λ r h. (r.mather, subst (λ (z : Carried). MatherOf z r.mather) h.1 (rows_to r.carried r.mather h.0.mather), ([], sym (append-nil (counted_text words.Mather mather_text r.mather))))) s)
 
 pub unresolved_read : (c : Carried) (rows : List (MatherRow Element)) (bytes one end : List ℕ) → IsWellFormedCarried c → carried_text words.Jet c ++ one ≡ bytes → MatherOf c rows → counted_text words.Mather mather_text rows ++ end ≡ one
     → IsWellFormedUnresolved (record { carried = c; mather = rows }) × (unresolved_rest (record { carried = c; mather = rows }) ++ end ≡ bytes)

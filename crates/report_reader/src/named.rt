@@ -74,8 +74,14 @@ fn named(
     table: Items<TableRow<Ext<Frac>>>,
 ) -> Named
     ensures { result ≡ record {
-        family = front.family; carried = front.carried; units = front.units; modulus = front.modulus; milnor = front.milnor;
-        mather = mather; quotient = record { basis = basis; table = table } } }
+      family = front.family;
+      carried = front.carried;
+      units = front.units;
+      modulus = front.modulus;
+      milnor = front.milnor;
+      mather = mather;
+      quotient = record { basis = basis; table = table };
+    } }
 {
     let Front {
         family,
