@@ -6,6 +6,8 @@ mod words;
 pub use words::words_of;
 
 #[cfg(test)]
+mod checks;
+#[cfg(test)]
 mod faults;
 #[cfg(test)]
 mod rows;

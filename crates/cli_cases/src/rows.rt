@@ -111,6 +111,8 @@ fn words_are_read(rt: HostRuntime) -> Result<(), Fail> {
     }
     let alone = words_of(rt.alloc(), &["classify"])?;
     assert_eq!(rt; read_words(&alone), Some(Command::Classify { limit: 12 }));
+    let check = words_of(rt.alloc(), &["check"])?;
+    assert_eq!(rt; read_words(&check), Some(Command::Check));
     let three = words_of(rt.alloc(), &["classify", "7", "7"])?;
     assert_eq!(rt; read_words(&three), None);
     Ok(())
@@ -119,7 +121,12 @@ fn words_are_read(rt: HostRuntime) -> Result<(), Fail> {
 // The source would fail at its first call.
 #[test]
 fn other_words_are_answered_before_any_read(rt: HostRuntime) -> Result<(), Fail> {
-    for words in [["check"].as_slice(), &["classify", "17"], &[]] {
+    for words in [
+        ["table"].as_slice(),
+        &["check", "12"],
+        &["classify", "17"],
+        &[],
+    ] {
         let words = words_of(rt.alloc(), words)?;
         let mut source = MemSource::new(rt.alloc(), MIXED, 5, &[1]).map_err(|_| MEMORY)?;
         let mut sink = MemSink::new(rt.alloc(), ROOM, 7, &[]).map_err(|_| MEMORY)?;

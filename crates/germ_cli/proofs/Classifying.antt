@@ -64,7 +64,7 @@ taken_so_far limit left now next old new before after g t =
     )
 
 within_so_far : (limit : ℕ) (left now next old new : Option (List ℕ)) (before after : Lines) (status : Status) → Going limit left now before old new → Takes before after now next
-    → (status ≡ statuses.InputLimit → 16777216 < after.taken) → (16777216 < after.taken → status ≡ statuses.InputLimit) → TakesWithin left next status
+    → (status ≡ statuses.InputLimit → 16777216 < after.taken) → (16777216 < after.taken → status ≡ statuses.InputLimit) → TakesWithin 16777216 left next status
 within_so_far limit left now next old new before after status g t above past =
     let all = taken_so_far limit left now next old new before after g t in
     record { taken = all.0; read = all.1; limit = ((λ e. omega (arith, all.2, above e)), (λ more. past (omega (arith, all.2, more)))) }

@@ -1,14 +1,15 @@
 -- Words that ask for a command.
-use Rattle.germ_cli.specs.Run.{Classifies}
-use Rattle.germ_cli.specs.Words.{AsksFor, IsLimit, IsWithinLimits}
+use Rattle.germ_cli.specs.Checking.{Checks}
+use Rattle.germ_cli.specs.Run.{Classifies, TakesWithin}
+use Rattle.germ_cli.specs.Words.{AsksFor, IsLimit, IsWithinLimits, input_limit_of}
 use Rattle.germ_cli.specs.declared.command.Command.TheVariants as commands
 use Rattle.germ_cli.specs.declared.command.Command.{Command}
 use Rattle.germ_cli.specs.declared.status.Status.{Status}
+use Rattle.std.specs.declared.option.Option.{Option}
 use Rattle.std.proofs.Common.{◌≡◌, ℕ, ◌<◌, ◌≤◌, true, List, [], ◌∷◌, length, get_or, map, ap, ap₂, arith, inl, inr, refl, subst, sym, ◌∙◌}
 use Rattle.std.proofs.lemmas.Fmt.{decimal_injective}
 use Rattle.std.proofs.lemmas.Slice.Eq.{bytes_eq-Decides}
 use Rattle.std.specs.Prelude.{bytes_eq, decimal}
-use Rattle.std.specs.declared.option.Option.{Option}
 use Rattle.text_reader.specs.Reading.{IsTextOf}
 
 -- a word that is the text of one number is that of no other
@@ -54,12 +55,30 @@ one_limit words m n (inl p) (inr q) = one_of words _ _ _ p.0 q.0
 one_limit words m n (inr p) (inl q) = one_of words _ _ _ q.0 p.0
 one_limit words m n (inr p) (inr q) = decimal_injective m n (omega (arith, p.1.high)) (omega (arith, q.1.high)) (last_of words _ _ _ p.0 q.0)
 
--- a run up to the order that the words ask for
-pub as_asked : (words : List (List ℕ)) (command : Command) (limit : ℕ) (left after old new : Option (List ℕ)) (status : Status) → AsksFor words command → AsksFor words (commands.Classify limit)
-    → ((k : ℕ) → command ≡ commands.Classify k → Classifies k left after old new status) → Classifies limit left after old new status
-as_asked words (commands.Classify m) limit left after old new status p q run = let P : ℕ → Type 0 = λ k. Classifies k left after old new status in subst P (one_limit words m limit p q) (run m refl)
+-- no words ask for both
+not_check : {A : Type 0} (words : List (List ℕ)) (limit : ℕ) → AsksFor words (commands.Classify limit) → AsksFor words commands.Check → A
+not_check words limit (inl p) q = let n : 5 ≡ 8 = ap (λ (x : List (List ℕ)). length (get_or x 0 [])) (sym q ∙ p.0) in absurd (omega (arith, n))
+not_check words limit (inr p) q = one_of words _ _ _ q p.0
+
+-- words ask for one command
+pub one_command : (words : List (List ℕ)) (c d : Command) → AsksFor words c → AsksFor words d → c ≡ d
+one_command words (commands.Classify m) (commands.Classify n) p q = ap (λ (k : ℕ). commands.Classify k) (one_limit words m n p q)
+one_command words (commands.Classify m) commands.Check p q = not_check words m p q
+one_command words commands.Check (commands.Classify n) p q = not_check words n q p
+one_command words commands.Check commands.Check p q = refl
+
+-- words that ask for a classification do not ask for a check
+pub no_check : (words : List (List ℕ)) (command : Command) (limit : ℕ) → AsksFor words command → AsksFor words (commands.Classify limit) → command ≡ commands.Check → ⊥
+no_check words command limit p q e = let P : Command → Type 0 = λ x. AsksFor words x in not_check words limit q (subst P e p)
 
 -- the order limit that is asked for may be named
 pub asked_within : (words : List (List ℕ)) (command : Command) → AsksFor words command → IsWithinLimits command
 asked_within words (commands.Classify limit) (inl usual) = let twelve : limit ≡ 12 = usual.1 in record { low = omega arith; high = omega arith }
 asked_within words (commands.Classify limit) (inr named) = named.1
+asked_within words commands.Check asked = tt
+
+-- how much a run took
+pub within_of : (command : Command) (left after old new : Option (List ℕ)) (status : Status) → ((limit : ℕ) → command ≡ commands.Classify limit → Classifies limit left after old new status)
+    → (command ≡ commands.Check → Checks left after old new status) → TakesWithin (input_limit_of command) left after status
+within_of (commands.Classify limit) left after old new status classifies checks = (classifies limit refl).within
+within_of commands.Check left after old new status classifies checks = (checks refl).within

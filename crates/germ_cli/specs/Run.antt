@@ -80,11 +80,11 @@ pub record AnswersWithin (limit : ℕ) (left after old new : Option (List ℕ)) 
   pub low : 16777216 - 65536 < count
   pub answered : WroteAnswers limit (ended_lines (take count taken)) old new
 
--- these bytes were taken, and the run ends with `InputLimit` exactly where they are more than 16,777,216
-pub record TakesWithin (left after : Option (List ℕ)) (status : Status) : Type 0 where
+-- these bytes were taken, and the run ends with `InputLimit` exactly where they are more than `most`
+pub record TakesWithin (most : ℕ) (left after : Option (List ℕ)) (status : Status) : Type 0 where
   pub taken : List ℕ
   pub read : Consumes left after taken
-  pub limit : (status ≡ statuses.InputLimit) ↔ (16777216 < length taken)
+  pub limit : (status ≡ statuses.InputLimit) ↔ (most < length taken)
 
 -- no fault came: the count stands, below its end
 pub record IsQuiet (before now : ℕ) : Type 0 where
@@ -101,4 +101,4 @@ pub record Classifies (limit : ℕ) (left after old new : Option (List ℕ)) (st
   pub front : IfSome left (λ input. WroteFront limit (answered_lines input) old new)
   pub fault : status ≡ statuses.ReadFault → AnswersEnded limit left after old new
   pub at_limit : status ≡ statuses.InputLimit → AnswersWithin limit left after old new
-  pub within : TakesWithin left after status
+  pub within : TakesWithin 16777216 left after status

@@ -9,6 +9,8 @@ use text_reader::read_u8;
 pub enum Command {
     /// A report for each line, up to this order.
     Classify { limit: u8 },
+    /// A verdict on each chunk.
+    Check,
 }
 
 /// The highest order that is tried where the words name none.
@@ -26,13 +28,14 @@ fn read_limit(word: &[u8]) -> Option<u8>
 }
 
 /// The command that the words spell: `classify`, or `classify K` with K from 3 to 16, decimal without
-/// sign and without leading zeros. `None` exactly where they spell none.
+/// sign and without leading zeros, or `check`. `None` exactly where they spell none.
 pub fn read_words(words: &[String]) -> Option<Command>
     ensures some { IfSome result (AsksFor (map string_bytes words.now)) }
     ensures none { result ≡ None → AskForNothing (map string_bytes words.now) }
 {
     match words {
         [word] if word.as_str() == "classify" => Some(Command::Classify { limit: LIMIT }),
+        [word] if word.as_str() == "check" => Some(Command::Check),
         [word, limit] if word.as_str() == "classify" => match read_limit(limit.as_bytes()) {
             Some(limit) => Some(Command::Classify { limit }),
             None => None,

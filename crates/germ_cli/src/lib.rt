@@ -2,8 +2,10 @@
 #![tactic(auto)]
 
 mod answers;
+mod checking;
 mod classification;
 mod command;
+mod finding;
 mod status;
 mod top;
 
