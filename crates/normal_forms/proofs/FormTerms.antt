@@ -12,7 +12,7 @@ use Rattle.normal_forms.specs.declared.family.Family.TheVariants as families
 use Rattle.normal_forms.specs.Monomials.{in_eight, numbers_below, is_residual, is_square, square_of}
 use Rattle.normal_forms.specs.Families.{is_family, sum_of}
 use Rattle.normal_forms.specs.Distinct.{are_distinct, exponents_in}
-use Rattle.normal_forms.proofs.Padded.{get_or-in_eight}
+use Rattle.normal_forms.proofs.Padded.{get_or-in_eight, get_or-zeros}
 use Rattle.normal_forms.proofs.Residual.{residual_in}
 
 -- ---- pairs of lists
@@ -154,12 +154,7 @@ square_not_residual c i l = step (is_residual c (square_of (c + i))) refl
 square_zero : (i j : ℕ) → i < j → j < 8 → get_or (square_of j).e i 0 ≡ 0
 square_zero i j l h =
     let long : length (replicate {A = ℕ} j 0) ≡ j = length-replicate j 0 in
-    get_or-in_eight (replicate j 0 ++ 2 ∷ []) i (omega arith) ∙ get_or-append (replicate j 0) (2 ∷ []) 0 i (omega arith) ∙ nothing j i
-  where
-    nothing : (n i : ℕ) → get_or (replicate {A = ℕ} n 0) i 0 ≡ 0
-    nothing zero i = refl
-    nothing (suc n) zero = refl
-    nothing (suc n) (suc i) = nothing n i
+    get_or-in_eight (replicate j 0 ++ 2 ∷ []) i (omega arith) ∙ get_or-append (replicate j 0) (2 ∷ []) 0 i (omega arith) ∙ get_or-zeros j i
 
 two_squares : (i j : ℕ) → i < j → j < 8 → Differs (square_of i).e (square_of j).e
 two_squares i j l h =

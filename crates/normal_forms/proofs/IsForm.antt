@@ -1,10 +1,10 @@
 -- The terms of a form of a family, as a jet: what it needs of them, and that it is a form.
-use Rattle.std.proofs.Common.{◌≡◌, ◌≢◌, ℕ, zero, suc, ◌+◌, ◌-◌, ◌<◌, ◌≤◌, ◌⊎◌, inl, inr, Bool, true, false, cond, ◌&&◌, ◌||◌, List, [], ◌∷◌, ◌++◌, length, map, take, replicate, sum, eqb-true, refl, sym, ap, ap₂, subst, ◌∙◌, arith}
+use Rattle.std.proofs.Common.{◌≡◌, ◌≢◌, ℕ, suc, ◌+◌, ◌-◌, ◌<◌, ◌≤◌, ◌⊎◌, inl, inr, Bool, true, false, cond, ◌&&◌, ◌||◌, List, [], ◌∷◌, ◌++◌, length, map, sum, eqb-true, refl, sym, ap, ap₂, subst, ◌∙◌, arith}
 use Rattle.std.specs.Prelude.{◌==◌, not}
 use Rattle.std.specs.Str.{bytes_eq}
 use Rattle.std.specs.List.{All, AllByRecursion, list_all, zip}
 use Rattle.std.specs.List.Sorted.{IsPermutation}
-use Rattle.std.proofs.lemmas.List.{map-append, length-replicate, length-append}
+use Rattle.std.proofs.lemmas.List.{map-append}
 use Rattle.std.proofs.lemmas.List.Elements.{filter-append}
 use Rattle.std.proofs.lemmas.List.Folds.{list_all-map}
 use Rattle.std.proofs.lemmas.List.Sorted.{All-permutation, IsPermutation-sym}
@@ -23,21 +23,10 @@ use Rattle.normal_forms.specs.Forms.{IsFormOf}
 use Rattle.normal_forms.specs.Distinct.{are_distinct, exponents_in}
 use Rattle.normal_forms.proofs.Kept.{all-filter}
 use Rattle.normal_forms.proofs.Members.{residual_all}
-use Rattle.normal_forms.proofs.Padded.{in_eight-in, square-in}
+use Rattle.normal_forms.proofs.Padded.{in_eight-in, length-in_eight, square-in}
 use Rattle.normal_forms.proofs.Residual.{in_residual}
 use Rattle.normal_forms.proofs.Sums.{sum_long}
 use Rattle.normal_forms.proofs.FormTerms.{zip-firsts, zip-seconds, all-append, all-numbers, length-map-numbers, exponents-zip, distinct-append, differs_at, Differs, squares_from, squares_distinct, entries, all-entries, square_at, square_long, square_is_square, square_not_residual, sum_distinct, and_true}
-
-take_long : (n : ℕ) (xs : List ℕ) → n ≤ length xs → length (take n xs) ≡ n
-take_long zero xs h = refl
-take_long (suc n) [] h = absurd (omega arith)
-take_long (suc n) (x ∷ xs) h = ap suc (take_long n xs (omega arith))
-
-in_eight_long : (e : List ℕ) → length (in_eight e).e ≡ 8
-in_eight_long e =
-    let whole : length (e ++ replicate {A = ℕ} 8 0) ≡ length e + length (replicate {A = ℕ} 8 0) = length-append e (replicate 8 0) in
-    let zeros : length (replicate {A = ℕ} 8 0) ≡ 8 = length-replicate {A = ℕ} 8 0 in
-    take_long 8 (e ++ replicate 8 0) (omega arith)
 
 mapped : (Q : List ℕ → Type 0) (P : Exp → Type 0) (es : List (List ℕ)) → ((e : List ℕ) → Q e → P (in_eight e)) → AllByRecursion Q es → AllByRecursion P (map in_eight es)
 mapped Q P [] f a = tt
@@ -122,7 +111,7 @@ module _ {E : Type 0} (family : Family) (coefs squares : List E) (full : length 
   pub terms_long : All (λ t. length t.0.e ≡ 8) (form_terms family coefs squares)
   terms_long =
       to-all (λ t. length t.0.e ≡ 8) (form_terms family coefs squares)
-      (monomials_all (λ (a : Exp). length a.e ≡ 8) (λ e long. in_eight_long e) (λ i l. square_long (c + i) (omega arith)))
+      (monomials_all (λ (a : Exp). length a.e ≡ 8) (λ e long. length-in_eight e) (λ i l. square_long (c + i) (omega arith)))
 
   exponents-append : (xs ys : List (Exp × E)) → exponents_in (xs ++ ys) ≡ exponents_in xs ++ exponents_in ys
   exponents-append xs ys = map-append (λ (t : Exp × E). t.0.e) xs ys

@@ -2,7 +2,8 @@
 use Rattle.std.proofs.Common.{◌≡◌, ℕ, zero, suc, ◌+◌, ◌-◌, ◌<◌, ◌≤◌, ◌⊎◌, inl, inr, List, [], ◌∷◌, ◌++◌, length, take, get_or, replicate, refl, sym, ◌∙◌, arith}
 use Rattle.std.proofs.Math.ListN.{get_or-append}
 use Rattle.std.proofs.Math.Seq.{get_or-append_right}
-use Rattle.std.proofs.lemmas.List.{get_or-take, length-replicate, length-append}
+use Rattle.std.proofs.lemmas.Bool.{cases_lt}
+use Rattle.std.proofs.lemmas.List.{get_or-take, get_or_past, length-replicate, length-append, length-take}
 use Rattle.poly_law.proofs.ExpLists.{exps_are}
 use Rattle.mono_exp.specs.Exponents.{IsIn}
 use Rattle.jet_law.specs.Terms.{exp_of}
@@ -10,15 +11,11 @@ use Rattle.jet_law.specs.Canonical.{monomial_in}
 use Rattle.jet_law.proofs.TermLemmas.{at-exp_of}
 use Rattle.normal_forms.specs.Monomials.{in_eight, square_of}
 
-zeros : (n i : ℕ) → get_or (replicate {A = ℕ} n 0) i 0 ≡ 0
-zeros zero i = refl
-zeros (suc n) zero = refl
-zeros (suc n) (suc i) = zeros n i
-
-past_end : (xs : List ℕ) (i : ℕ) → length xs ≤ i → get_or xs i 0 ≡ 0
-past_end [] i h = refl
-past_end (x ∷ xs) zero h = absurd (omega arith)
-past_end (x ∷ xs) (suc i) h = past_end xs i (omega arith)
+-- a list of zeros has 0 everywhere
+pub get_or-zeros : (n i : ℕ) → get_or (replicate {A = ℕ} n 0) i 0 ≡ 0
+get_or-zeros zero i = refl
+get_or-zeros (suc n) zero = refl
+get_or-zeros (suc n) (suc i) = get_or-zeros n i
 
 take_past : (n : ℕ) (xs : List ℕ) (i : ℕ) → n ≤ i → get_or (take n xs) i 0 ≡ 0
 take_past zero xs i h = refl
@@ -26,23 +23,27 @@ take_past (suc n) [] i h = refl
 take_past (suc n) (x ∷ xs) zero h = absurd (omega arith)
 take_past (suc n) (x ∷ xs) (suc i) h = take_past n xs i (omega arith)
 
-within_or_past : (i n : ℕ) → (i < n) ⊎ (n ≤ i)
-within_or_past i n = grind arith
+-- eight places
+pub length-in_eight : (e : List ℕ) → length (in_eight e).e ≡ 8
+length-in_eight e =
+    let a : length (e ++ replicate 8 0) ≡ length e + length (replicate {A = ℕ} 8 0) = length-append e (replicate 8 0) in
+    let b : length (replicate {A = ℕ} 8 0) ≡ 8 = length-replicate {A = ℕ} 8 0 in
+    omega (arith, length-take 8 (e ++ replicate 8 0))
 
 -- the exponents are the same in the first eight places
 pub get_or-in_eight : (e : List ℕ) (i : ℕ) → i < 8 → get_or (in_eight e).e i 0 ≡ get_or e i 0
-get_or-in_eight e i h = get_or-take 8 (e ++ replicate 8 0) i 0 h ∙ step (within_or_past i (length e))
+get_or-in_eight e i h = get_or-take 8 (e ++ replicate 8 0) i 0 h ∙ step (cases_lt i (length e))
   where
     step : (i < length e) ⊎ (length e ≤ i) → get_or (e ++ replicate 8 0) i 0 ≡ get_or e i 0
     step (inl l) = get_or-append e (replicate 8 0) 0 i l
-    step (inr l) = get_or-append_right e (replicate 8 0) i 0 l ∙ zeros 8 (i - length e) ∙ sym (past_end e i l)
+    step (inr l) = get_or-append_right e (replicate 8 0) i 0 l ∙ get_or-zeros 8 (i - length e) ∙ sym (get_or_past e i 0 l)
 
 -- c exponents are those of a monomial in c variables
 pub in_eight-in : (c : ℕ) (e : List ℕ) → length e ≤ c → IsIn c (in_eight e).e
-in_eight-in c e short i h = step (within_or_past i 8)
+in_eight-in c e short i h = step (cases_lt i 8)
   where
     step : (i < 8) ⊎ (8 ≤ i) → get_or (in_eight e).e i 0 ≡ 0
-    step (inl l) = get_or-in_eight e i l ∙ past_end e i (omega arith)
+    step (inl l) = get_or-in_eight e i l ∙ get_or_past e i 0 (omega arith)
     step (inr l) = take_past 8 (e ++ replicate 8 0) i l
 
 pub exp_of-in_eight : (c : ℕ) (e : List ℕ) → c ≤ 8 → exp_of c (in_eight e) ≡ monomial_in c e
