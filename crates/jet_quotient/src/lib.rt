@@ -6,3 +6,4 @@ mod basis;
 mod table;
 
 pub use algebra::quotient;
+pub use basis::monomials_to;
