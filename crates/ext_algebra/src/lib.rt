@@ -6,11 +6,13 @@ mod algebra_ring;
 mod field;
 pub mod inverse;
 pub mod product;
+mod rational_algebra;
 mod ring;
 
 pub use algebra::{Algebra, Ext};
 pub use algebra_ring::AlgebraRing;
 pub use field::{ExtError, ExtField};
+pub use rational_algebra::RationalAlgebra;
 pub use ring::ExtRing;
 
 #[cfg(test)]

@@ -6,7 +6,7 @@ use Rattle.ring_theory.specs.Ring.{RingOps}
 use Rattle.ring_theory.specs.Scalars.{Scalars}
 use Rattle.ring_theory.specs.Rational.{Rational, rational, rational_inv}
 use Rattle.ring_theory.specs.Height.{rational_scalars}
-use Rattle.ring_law.specs.Fraction.{frac_value}
+use Rattle.ring_law.specs.Fraction.{IsFrac, frac_value}
 use Rattle.ring_law.specs.declared.fraction.Frac.{Frac}
 use Rattle.poly_law.specs.Sums.{power}
 use Rattle.ext_algebra.specs.declared.algebra.Algebra.{Algebra}
@@ -170,3 +170,10 @@ IsModulus a kinds.CubicForm coefs _ = ⊥
 IsModulus a kinds.QuarticForm coefs _ = ⊥
 IsModulus a kinds.Triple coefs _ = ⊥
 IsModulus a kinds.Exceptional coefs _ = ⊥
+
+-- a modulus line is valid over an algebra: its coefficient is a valid element, or its j invariant a valid fraction
+abbrev pub IsValidModulus : Algebra → ModulusLine → Type 0
+IsValidModulus a moduli.None = Unit {0}
+IsValidModulus a moduli.Form = Unit {0}
+IsValidModulus a (moduli.Value e) = IsElement a e
+IsValidModulus a (moduli.J q) = IsFrac q

@@ -9,9 +9,9 @@ ghost use Rattle.ring_formula.specs.Formulas.{formula_value};
 ghost use Rattle.jet_law.specs.Heights.{IsHigh};
 ghost use Rattle.ext_algebra.specs.declared.algebra.Algebra.{Algebra};
 ghost use Rattle.ext_algebra.specs.declared.algebra.Algebra.TheVariants as algebra;
-ghost use Rattle.ext_algebra.specs.Algebra.{value_in};
+ghost use Rattle.ext_algebra.specs.Algebra.{IsElement, value_in};
 ghost use Rattle.normal_forms.specs.Families.{sum_of, kind_of};
-ghost use Rattle.normal_forms.specs.Units.{quartic_i, quartic_discriminant, triple_discriminant, quartic_heights, triple_heights, at, quotient_heights, modulus_heights, AreRational, IsNondegenerate, IsModulus};
+ghost use Rattle.normal_forms.specs.Units.{quartic_i, quartic_discriminant, triple_discriminant, quartic_heights, triple_heights, at, quotient_heights, modulus_heights, AreRational, IsNondegenerate, IsModulus, IsValidModulus};
 
 use crate::family::Family;
 use crate::invariant::{
@@ -77,6 +77,7 @@ pub fn modulus(family: Family, coefs: &[Ext<Frac>]) -> Result<ModulusLine, Range
     requires coefficients { length coefs.now ≡ length (sum_of family) }
     requires rational { AreRational (kind_of family) coefs.now }
     requires nondegenerate { IsNondegenerate (kind_of family) (map (value_in algebra.Rational) coefs.now) }
+    ensures elem { IfOk result (λ line. (a : Algebra) → All (IsElement a) coefs.now → IsValidModulus a line) }
     ensures modulus { IfOk result (λ line. (a : Algebra) → IsModulus a (kind_of family) (map (value_in a) coefs.now) line) }
     ensures range { OnRange result (IsHigh (modulus_heights (kind_of family) (map (value_in algebra.Rational) coefs.now))) }
 {
