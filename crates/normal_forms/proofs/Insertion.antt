@@ -4,23 +4,13 @@ use Rattle.std.specs.Prelude.{insert, not}
 use Rattle.std.specs.List.{position_or_len, AllByRecursion}
 use Rattle.mono_exp.specs.declared.exponent.Exp.{Exp}
 use Rattle.mono_exp.specs.Exponents.{is_before}
-use Rattle.mono_exp.proofs.Counting.{before-place, place-before, before_or_after}
+use Rattle.mono_exp.proofs.Counting.{before_or_after}
 use Rattle.jet_poly.specs.JetTerms.{IsRising, AllAfter}
-
-before-trans : (a b c : List ℕ) → length a ≡ 8 → length b ≡ 8 → length c ≡ 8 → is_before a b ≡ true → is_before b c ≡ true → is_before a c ≡ true
-before-trans a b c la lb lc h k =
-    let x = before-place a b (la ∙ sym lb) h in
-    let y = before-place b c (lb ∙ sym lc) k in
-    place-before a c (la ∙ sym lc) (omega arith)
+use Rattle.jet_poly.proofs.Coefficients.{after-trans}
 
 module _ {E : Type 0} where
   abbrev Long : Exp × E → Type 0
   Long t = length t.0.e ≡ 8
-
-  -- what stands after a later monomial stands after an earlier one
-  after-trans : (m : Exp) (u : Exp × E) (xs : List (Exp × E)) → length m.e ≡ 8 → length u.0.e ≡ 8 → AllByRecursion Long xs → is_before m.e u.0.e ≡ true → AllAfter u.0 xs → AllAfter m xs
-  after-trans m u [] lm lu all h after = tt
-  after-trans m u (x ∷ xs) lm lu all h after = (before-trans m.e u.0.e x.0.e lm lu all.0 h after.0, after-trans m u xs lm lu all.1 h after.1)
 
   after-insert : (m : Exp) (t : Exp × E) (xs : List (Exp × E)) (i : ℕ) → AllAfter m xs → is_before m.e t.0.e ≡ true → AllAfter m (take i xs ++ t ∷ drop i xs)
   after-insert m t [] zero after h = (h, tt)
@@ -44,7 +34,7 @@ module _ {E : Type 0} where
 
         step : (b : Bool) → is_before m.e x.0.e ≡ b → IsRising (take (place_in xs) xs ++ (m, c) ∷ drop (place_in xs) xs)
             → IsRising (take (cond (not b) (1 + place_in xs) 0) (x ∷ xs) ++ (m, c) ∷ drop (cond (not b) (1 + place_in xs) 0) (x ∷ xs))
-        step true e rest = ((e, after-trans m x xs long l.0 l.1 e r.0), r)
+        step true e rest = ((e, after-trans m x.0 xs e r.0), r)
         step false e rest = rw one-add (after-insert x.0 (m, c) xs (place_in xs) r.0 (earlier e), rest)
 
     pub rising-insert : (xs : List (Exp × E)) (i : ℕ) → i ≡ place_in xs → IsRising xs → AllByRecursion Long xs → AllByRecursion (λ t. t.0.e ≢ m.e) xs → IsRising (insert xs i (m, c))
