@@ -1,5 +1,5 @@
 -- The names of a line of the grammar are names, and the code keeps their bytes.
-use Rattle.std.proofs.Common.{◌≡◌, ℕ, zero, suc, ◌+◌, ◌-◌, ◌≤◌, true, ◌&&◌, List, [], ◌∷◌, ◌++◌, map, get_or, length, take, drop, min, replicate, Option, Some, None, refl, sym, ap, ap₂, ◌∙◌, arith, leb-true, le-leb, eqb-true}
+use Rattle.std.proofs.Common.{◌≡◌, ℕ, zero, suc, ◌+◌, ◌-◌, ◌<◌, ◌≤◌, true, IsTrue, ◌&&◌, List, [], ◌∷◌, ◌++◌, map, get_or, length, take, drop, min, replicate, Option, Some, None, refl, sym, ap, ap₂, subst, ◌∙◌, arith, leb-true, le-leb, eqb-true}
 use Rattle.std.specs.Prelude.{nat_le, ◌==◌}
 use Rattle.std.specs.List.{list_all}
 use Rattle.std.proofs.Math.Seq.{take-append_seam, drop-append_seam}
@@ -9,9 +9,11 @@ use Rattle.line_syntax.specs.Syntax.{Word, Line, IsLine, Expr, Token, name, numb
 use Rattle.line_syntax.proofs.Bools.{and_left, and_right}
 use Rattle.line_reader.proofs.Names.{all_names, all_of_collected}
 use Rattle.line_germ.specs.Names.{name_of}
+use Rattle.line_germ.specs.Reads.{IsLinearIn}
 use Rattle.poly_text.specs.declared.name.Name.{Name}
 use Rattle.poly_text.specs.Polynomials.{name_text}
 use Rattle.cert_text.specs.WellFormed.{is_valid_name}
+use Rattle.report_law.specs.Items.{IsNotCritical}
 use Rattle.report_law.proofs.Splitting.{and_both}
 
 -- ---- the names of a line
@@ -126,3 +128,29 @@ names_of_words (x ∷ xs) h =
 pub words_of_names : (xs : List Word) → list_all is_name xs ≡ true → map name_text (map name_of xs) ≡ xs
 words_of_names [] h = refl
 words_of_names (x ∷ xs) h = ap₂ (λ v w. v ∷ w) (name_text-name_of x (and_left (is_name x) (list_all is_name xs) h)) (words_of_names xs (and_right (is_name x) (list_all is_name xs) h))
+
+-- ---- linear terms
+
+-- a name of a line
+name_at : (names : List Word) (i : ℕ) → list_all is_name names ≡ true → i < length names → is_name (get_or names i []) ≡ true
+name_at [] i all h = absurd (omega arith)
+name_at (x ∷ xs) zero all h = and_left (is_name x) (list_all is_name xs) all
+name_at (x ∷ xs) (suc i) all h = name_at xs i (and_right (is_name x) (list_all is_name xs) all) (omega arith)
+
+-- a linear term that is read, in the words of a report
+pub linear_is : (bytes : List ℕ) (v : Name) → IsLinearIn bytes v → IsNotCritical bytes (name_text v) × IsTrue (is_valid_name v)
+linear_is bytes v h =
+    let line = h.linear.line in
+    let within : h.place < length h.names = subst (λ ns. h.place < length ns) h.linear.names_are h.linear.first.within in
+    let word : Word = get_or h.names h.place [] in
+    let is_word : is_name word ≡ true = name_at h.names h.place (subst (λ ns. list_all is_name ns ≡ true) h.linear.names_are (line_names line h.linear.spells.is_line)) within in (
+      record {
+        line = line;
+        spells = h.linear.spells;
+        small = h.linear.small;
+        place = h.place;
+        first = h.linear.first;
+        variable_is = ap name_text h.variable_is ∙ name_text-name_of word is_word ∙ sym (ap (λ ns. get_or ns h.place []) h.linear.names_are);
+      },
+      ap is_valid_name h.variable_is ∙ name_valid word is_word,
+    )

@@ -31,11 +31,13 @@ zero_past zero (z ∷ zs) e (suc i) h = zero_past zero zs (and_right (is_zero z)
 zero_past (suc c) (z ∷ zs) e zero h = absurd (omega arith)
 zero_past (suc c) (z ∷ zs) e (suc i) h = zero_past c zs e i (omega arith)
 
+-- two tests that hold
 pub and_both : (a b : Bool) → a ≡ true → b ≡ true → (a && b) ≡ true
 and_both true b e f = f
 and_both false b e f = e
 
-all_zero_past : (c : ℕ) (m : List ℕ) → ((i : ℕ) → c ≤ i → get_or m i 0 ≡ 0) → list_all is_zero (drop c m) ≡ true
+-- and the other way round
+pub all_zero_past : (c : ℕ) (m : List ℕ) → ((i : ℕ) → c ≤ i → get_or m i 0 ≡ 0) → list_all is_zero (drop c m) ≡ true
 all_zero_past zero [] h = refl
 all_zero_past (suc c) [] h = refl
 all_zero_past zero (z ∷ zs) h = and_both (is_zero z) (list_all is_zero zs) (eq-eqb z 0 (h 0 (omega arith))) (all_zero_past zero zs (λ i g. h (suc i) (omega arith)))
