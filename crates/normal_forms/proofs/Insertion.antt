@@ -1,5 +1,5 @@
 -- A term inserted before the first one whose monomial stands after its own.
-use Rattle.std.proofs.Common.{◌≡◌, ◌≢◌, ℕ, zero, suc, ◌+◌, inl, inr, Bool, true, false, cond, List, [], ◌∷◌, ◌++◌, length, take, drop, refl, sym, subst, ◌∙◌, true≢false, one-add, arith}
+use Rattle.std.proofs.Common.{◌≡◌, ◌≢◌, ℕ, zero, suc, ◌+◌, inl, inr, Bool, true, false, cond, List, [], ◌∷◌, ◌++◌, length, take, drop, refl, sym, subst, ◌∙◌, true≢false, one-add}
 use Rattle.std.specs.Prelude.{insert, not}
 use Rattle.std.specs.List.{position_or_len, AllByRecursion}
 use Rattle.mono_exp.specs.declared.exponent.Exp.{Exp}
