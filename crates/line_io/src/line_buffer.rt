@@ -107,7 +107,9 @@ impl LineBuffer {
 
     /// Ends the line: without one carriage return at its end it is the line, or too long.
     pub fn finish(&mut self) -> Next
-        ensures { (bytes : List ℕ) → IsLineOf bytes self.old → IsHandedOut (without_last 13 bytes) self.new.kept result }
+        ensures line { (bytes : List ℕ) → IsLineOf bytes self.old → IsHandedOut (without_last 13 bytes) self.new.kept result }
+        ensures counted { self.new.total ≡ self.old.total }
+        ensures last { self.new.last ≡ self.old.last }
     {
         let length = line_length(self.total, self.last);
         if length > MAX_LINE as u64 {

@@ -3,8 +3,8 @@ use Rattle.line_io.proofs.line_buffer.LineBuffer.finish.Goals as goal
 use Rattle.line_io.specs.LineSoFar.{LineSoFar, IsLineOf, counted_length}
 use Rattle.std.proofs.Common.{ℕ, ◌≤◌, take, ap, sym, subst, ◌∙◌, arith}
 
-pub returns : goal.returns
-returns c = λ bytes p.
+pub returns-clause-line : goal.returns-clause-line
+returns-clause-line c = λ bytes p.
     let P : LineSoFar → Type 0 = λ s. IsLineOf bytes s in
     let q = subst P (sym c.self.view_is) p in
     let n = c.line_length-length.ensures in

@@ -9,32 +9,32 @@ pub gather-requires : goal.gather-requires
 gather-requires g c = record { small = gathers_small _ c.loop-self.self _ _ _ _ c.loop-self.invariant c.args.self.now.small }
 
 pub returns-then-gather-clause-line : goal.returns-then-gather-clause-line
-returns-then-gather-clause-line g c = λ _. hands_out_ended _ c.loop-self.self _ _ _ _ _ _ _ c.loop-self.invariant (c.if-gather.ensures.found refl) c.gather.ensures.same.0 c.gather.ensures.same.1 c.finish.ensures
+returns-then-gather-clause-line g c = λ _. hands_out_ended _ c.loop-self.self _ _ _ _ _ _ _ c.loop-self.invariant (c.if-gather.ensures.found refl) c.gather.ensures.same.0 c.gather.ensures.same.1 c.finish.ensures.line
 
 pub returns-then-gather-clause-end : goal.returns-then-gather-clause-end
-returns-then-gather-clause-end g c = λ e. not_after _ c.loop-self.self _ _ _ _ _ _ _ _ _ c.loop-self.invariant (c.if-gather.ensures.found refl).3 c.finish.ensures e refl
+returns-then-gather-clause-end g c = λ e. not_after _ c.loop-self.self _ _ _ _ _ _ _ _ _ c.loop-self.invariant (c.if-gather.ensures.found refl).3 c.finish.ensures.line e refl
 
 pub returns-then-gather-clause-fault : goal.returns-then-gather-clause-fault
-returns-then-gather-clause-fault g c = λ e. not_after _ c.loop-self.self _ _ _ _ _ _ _ _ _ c.loop-self.invariant (c.if-gather.ensures.found refl).3 c.finish.ensures e refl
+returns-then-gather-clause-fault g c = λ e. not_after _ c.loop-self.self _ _ _ _ _ _ _ _ _ c.loop-self.invariant (c.if-gather.ensures.found refl).3 c.finish.ensures.line e refl
 
 pub returns-then-gather-clause-limit : goal.returns-then-gather-clause-limit
 returns-then-gather-clause-limit g c = (
-  (λ e. not_after _ c.loop-self.self _ _ _ _ _ _ _ _ _ c.loop-self.invariant (c.if-gather.ensures.found refl).3 c.finish.ensures e refl),
+  (λ e. not_after _ c.loop-self.self _ _ _ _ _ _ _ _ _ c.loop-self.invariant (c.if-gather.ensures.found refl).3 c.finish.ensures.line e refl),
   (λ more. absurd (omega (arith, more, c.gather.ensures.same.0, c.loop-self.invariant.open_still))),
 )
 
 pub returns-then-self-2-clause-line : goal.returns-then-self-2-clause-line
-returns-then-self-2-clause-line g c = λ _. hands_out_rest _ c.loop-self.self _ _ _ _ _ _ _ c.loop-self.invariant (c.if-gather.ensures.all refl) c.gather.ensures.same.0 c.if-self-2.true (search rules) c.finish-then-self-2.ensures
+returns-then-self-2-clause-line g c = λ _. hands_out_rest _ c.loop-self.self _ _ _ _ _ _ _ c.loop-self.invariant (c.if-gather.ensures.all refl) c.gather.ensures.same.0 c.if-self-2.true (search rules) c.finish-then-self-2.ensures.line
 
 pub returns-then-self-2-clause-end : goal.returns-then-self-2-clause-end
-returns-then-self-2-clause-end g c = λ e. not_after _ c.loop-self.self _ _ _ _ _ _ _ _ _ c.loop-self.invariant (c.if-gather.ensures.all refl).2 c.finish-then-self-2.ensures e refl
+returns-then-self-2-clause-end g c = λ e. not_after _ c.loop-self.self _ _ _ _ _ _ _ _ _ c.loop-self.invariant (c.if-gather.ensures.all refl).2 c.finish-then-self-2.ensures.line e refl
 
 pub returns-then-self-2-clause-fault : goal.returns-then-self-2-clause-fault
-returns-then-self-2-clause-fault g c = λ e. not_after _ c.loop-self.self _ _ _ _ _ _ _ _ _ c.loop-self.invariant (c.if-gather.ensures.all refl).2 c.finish-then-self-2.ensures e refl
+returns-then-self-2-clause-fault g c = λ e. not_after _ c.loop-self.self _ _ _ _ _ _ _ _ _ c.loop-self.invariant (c.if-gather.ensures.all refl).2 c.finish-then-self-2.ensures.line e refl
 
 pub returns-then-self-2-clause-limit : goal.returns-then-self-2-clause-limit
 returns-then-self-2-clause-limit g c = (
-  (λ e. not_after _ c.loop-self.self _ _ _ _ _ _ _ _ _ c.loop-self.invariant (c.if-gather.ensures.all refl).2 c.finish-then-self-2.ensures e refl),
+  (λ e. not_after _ c.loop-self.self _ _ _ _ _ _ _ _ _ c.loop-self.invariant (c.if-gather.ensures.all refl).2 c.finish-then-self-2.ensures.line e refl),
   (λ more. absurd (omega (arith, more, c.gather.ensures.same.0, c.loop-self.invariant.open_still))),
 )
 
@@ -57,7 +57,7 @@ returns-then-self-gt-INPUT_LIMIT-2-clause-passed g c =
     c.in-Ok.ensures.ok c.in-Ok.ensures.counted (omega (arith, c.if-self-gt-INPUT_LIMIT-2.true)) c.fill.new.self.small)
 
 pub returns-then-gather-clause-passed : goal.returns-then-gather-clause-passed
-returns-then-gather-clause-passed g c = λ e. not_after _ c.loop-self.self _ _ _ _ _ _ _ _ _ c.loop-self.invariant (c.if-gather.ensures.found refl).3 c.finish.ensures e refl
+returns-then-gather-clause-passed g c = λ e. not_after _ c.loop-self.self _ _ _ _ _ _ _ _ _ c.loop-self.invariant (c.if-gather.ensures.found refl).3 c.finish.ensures.line e refl
 
 pub returns-then-self-2-clause-passed : goal.returns-then-self-2-clause-passed
-returns-then-self-2-clause-passed g c = λ e. not_after _ c.loop-self.self _ _ _ _ _ _ _ _ _ c.loop-self.invariant (c.if-gather.ensures.all refl).2 c.finish-then-self-2.ensures e refl
+returns-then-self-2-clause-passed g c = λ e. not_after _ c.loop-self.self _ _ _ _ _ _ _ _ _ c.loop-self.invariant (c.if-gather.ensures.all refl).2 c.finish-then-self-2.ensures.line e refl
