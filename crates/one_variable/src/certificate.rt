@@ -7,10 +7,9 @@ ghost use Rattle.ring_law.specs.Fraction.{frac_value};
 ghost use Rattle.ring_law.specs.Refusals.{OnFault};
 ghost use Rattle.std.specs.Prelude.{◌≡◌, IfOk};
 
-use crate::field::RationalAlgebra;
 use crate::piece::{empty_jet, single_term};
 use determinacy::{MatherRow, MatherTest, mather};
-use ext_algebra::Ext;
+use ext_algebra::{Ext, RationalAlgebra};
 use jet_poly::Jet;
 use jet_quotient::quotient;
 use milnor_alg::JetQuotient;

@@ -3,7 +3,6 @@
 
 mod answer;
 mod certificate;
-mod field;
 mod laws;
 mod piece;
 

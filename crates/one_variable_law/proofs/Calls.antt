@@ -1,14 +1,11 @@
 -- What the calls of Mather's test and of the quotient answer for the residual part of c*u1^m are rows, basis and table of the form, and why they are refused.
 use Rattle.std.proofs.Common.{◌≡◌, ℕ, ◌≤◌, Bool, true, false, cond, List, sym, subst, arith, Result, Ok, Err, IfOk}
 use Rattle.std.specs.Prelude.{◌==◌}
-use Rattle.ring_theory.specs.Scalars.{HasInverses}
-use Rattle.ring_theory.proofs.RationalLaws.{rational_inverts}
 use Rattle.ring_law.specs.declared.fraction.Frac.{Frac}
-use Rattle.ring_law.specs.Fraction.{IsFrac, frac_value}
+use Rattle.ring_law.specs.Fraction.{frac_value}
 use Rattle.ext_algebra.specs.declared.algebra.Algebra.TheVariants as algebras
 use Rattle.ext_algebra.specs.declared.algebra.Ext.{Ext}
-use Rattle.ext_algebra.specs.Algebra.{IsElement, ops, scalars}
-use Rattle.ext_algebra.proofs.ElementTests.{is_element-IsElement}
+use Rattle.ext_algebra.specs.Algebra.{ops, scalars}
 use Rattle.poly_law.specs.Polynomials.{StartsAtIn}
 use Rattle.mono_exp.specs.declared.exponent.Exp.{Exp}
 use Rattle.jet_poly.specs.JetTerms.{JetTerms}
@@ -24,20 +21,10 @@ use Rattle.jet_poly.specs.Jets.{IsJet, polynomial_of}
 use Rattle.cert_text.specs.declared.report.Phase.TheVariants as phases
 use Rattle.one_variable_law.specs.Answers.{IsNameable, AreRowsOf, IsQuotientOf}
 use Rattle.one_variable_law.specs.Plan.{IsFormHigh}
-use Rattle.one_variable_law.specs.Reports.{rational, corank_of, single, residual_jet}
+use Rattle.one_variable_law.specs.Reports.{corank_of, single, residual_jet}
 use Rattle.one_variable_law.proofs.Answered
 use Rattle.one_variable_law.proofs.Answered.{meaning}
 use Rattle.one_variable_law.proofs.Residual.{residual_is_jet, residual_low, test_high, quotient_high, form_residual, residual_holds}
-use Rattle.one_variable_law.proofs.Valid.{fraction_valid, element_valid}
-
--- a valid fraction as an element
-pub element_is : (f : Frac) → IsFrac f → IsElement algebras.Rational (rational f)
-element_is f valid = (is_element-IsElement algebras.Rational (rational f)).0 (element_valid f (fraction_valid f valid))
-
--- the rational numbers as an algebra have inverses
-pub element_inverts : HasInverses (scalars algebras.Rational)
-unfolding scalars
-element_inverts = rational_inverts
 
 corank_low : (m : ℕ) → corank_of m ≤ 1
 corank_low m = by_test (m == 2)
