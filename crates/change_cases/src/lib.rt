@@ -4,6 +4,8 @@
 mod changes;
 mod jets;
 #[cfg(test)]
+mod quadratic;
+#[cfg(test)]
 mod tests;
 
 pub use changes::change_of;

@@ -1,4 +1,4 @@
-//! Changes of coordinates over the rational numbers. The values are worked out by hand.
+//! Changes of coordinates over the rational numbers. The values are worked out by hand, but for those of the test that names another source.
 
 ghost use Rattle.std.specs.Prelude.{◌≡◌, ◌<◌, ◌≤◌, All, IfOk, length};
 ghost use Rattle.ring_law.specs.Fraction.{IsFrac, rational_meaning};
@@ -32,7 +32,7 @@ const X: Term = ([1, 0, 0], 1, 1);
 const Y: Term = ([0, 1, 0], 1, 1);
 
 /// The fraction `num/den`, 0 where there is none.
-fn fraction(num: i128, den: i128) -> Frac
+pub(crate) fn fraction(num: i128, den: i128) -> Frac
     ensures { IsFrac result }
 {
     match make_frac(num, den) {
@@ -314,5 +314,89 @@ fn substitutions_and_powers(rt: HostRuntime) -> Result<(), Fail> {
         let wanted = [([0, 0, 0], a, 1), ([1, 0, 0], b, 1), ([2, 0, 0], c, 1)];
         assert_terms(&rt, power, wanted.as_slice(), "a power of 1 + x");
     }
+    Ok(())
+}
+
+const FIRST: [[Term; 4]; 3] = [
+    [
+        ([0, 1, 0], 1, 2),
+        ([0, 0, 1], -1, 1),
+        ([2, 0, 1], -4, 1),
+        ([0, 3, 0], -4, 3),
+    ],
+    [
+        ([0, 1, 0], -3, 1),
+        ([0, 0, 1], -1, 2),
+        ([1, 0, 1], -4, 1),
+        ([0, 0, 3], 2, 3),
+    ],
+    [
+        ([1, 0, 0], -1, 1),
+        ([0, 1, 0], -1, 1),
+        ([3, 0, 0], 2, 1),
+        ([1, 0, 2], 4, 1),
+    ],
+];
+
+const NEXT: [[Term; 4]; 3] = [
+    [
+        ([0, 1, 0], 1, 1),
+        ([0, 0, 1], 4, 3),
+        ([2, 0, 0], 2, 3),
+        ([0, 0, 2], 1, 1),
+    ],
+    [
+        ([1, 0, 0], -1, 1),
+        ([0, 0, 1], 1, 1),
+        ([1, 1, 0], -1, 1),
+        ([0, 3, 0], 1, 2),
+    ],
+    [
+        ([0, 1, 0], -4, 3),
+        ([0, 0, 1], -2, 1),
+        ([1, 1, 0], -3, 1),
+        ([2, 0, 1], 1, 2),
+    ],
+];
+
+const GERM: [Term; 4] = [
+    ([0, 2, 0], -3, 2),
+    ([0, 0, 2], -1, 1),
+    ([3, 0, 0], -2, 1),
+    ([0, 3, 0], 1, 1),
+];
+
+const CARRIED: [Term; 16] = [
+    ([2, 0, 0], -29, 2),
+    ([1, 1, 0], -4, 1),
+    ([1, 0, 1], 68, 3),
+    ([0, 2, 0], -5, 3),
+    ([0, 1, 1], -2, 3),
+    ([0, 0, 2], -103, 9),
+    ([3, 0, 0], 343, 12),
+    ([2, 1, 0], -167, 6),
+    ([2, 0, 1], -2191, 36),
+    ([1, 2, 0], -137, 3),
+    ([1, 1, 1], -325, 3),
+    ([1, 0, 2], -157, 4),
+    ([0, 3, 0], -136, 9),
+    ([0, 2, 1], -248, 9),
+    ([0, 1, 2], 76, 3),
+    ([0, 0, 3], 241, 12),
+];
+
+// The changes and the germ are drawn by lot; the carried jet was computed in exact arithmetic by another program.
+#[test]
+fn carrying_by_two_changes(rt: HostRuntime) -> Result<(), Fail> {
+    let alloc = rt.alloc();
+    let first = rational_change(&rt, alloc, 3, FIRST.as_slice())?;
+    let next = rational_change(&rt, alloc, 3, NEXT.as_slice())?;
+    let f = rational_jet(alloc, 3, 3, GERM.as_slice())?;
+    let once = carry(alloc, &Rationals, &first, &f, 3)?;
+    let twice = carry(alloc, &Rationals, &next, &once, 3)?;
+    assert_terms(&rt, &twice, CARRIED.as_slice(), "one after the other");
+    let both = then(alloc, &Rationals, &first, &next, 3)?;
+    let at_once = carry(alloc, &Rationals, &both, &f, 3)?;
+    assert_terms(&rt, &at_once, CARRIED.as_slice(), "both at once");
     Ok(())
 }
