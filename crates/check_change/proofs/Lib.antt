@@ -1,4 +1,3 @@
-pub mod SameTerms
-pub mod OneJet
+pub mod CarriedTest
 pub mod Inverses
 pub mod ReportChanges

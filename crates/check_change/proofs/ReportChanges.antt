@@ -11,7 +11,6 @@ use Rattle.ring_theory.specs.Scalars.{ScalarLaws}
 use Rattle.ring_theory.proofs.ValueSet.{values_are_set}
 use Rattle.ring_law.specs.declared.fraction.Frac.{Frac}
 use Rattle.ring_law.specs.Fraction.{frac_value}
-use Rattle.ext_theory.specs.ExtensionScalars.{quadratic_scalars, cubic_scalars}
 use Rattle.ext_algebra.specs.declared.algebra.Algebra.{Algebra}
 use Rattle.ext_algebra.specs.declared.algebra.Algebra.TheVariants as algebras
 use Rattle.ext_algebra.specs.declared.algebra.Ext.{Ext}
@@ -40,7 +39,7 @@ use Rattle.cert_text.specs.declared.report.Carried.{Carried}
 use Rattle.cert_text.specs.WellFormed.{IsWellFormedCarried, IsPartOf}
 use Rattle.report_law.specs.Polynomials.{PolynomialOver, jet_at, value_at, zero_element, lifted}
 use Rattle.report_law.specs.Items.{variables_of, ring_of, jet_of, part_of, matrix_of, IsInvertibleChange}
-use Rattle.report_jet.proofs.ReportJets.{jet_valid, terms_in-poly_of}
+use Rattle.report_jet.proofs.ReportJets.{jet_valid, terms_in-poly_of, get_or-values}
 use Rattle.check_change.specs.Heights.{AreProductsHigh, IsInverseHigh, IsCarryHigh}
 
 -- ---- parts and matrices by their places
@@ -55,21 +54,9 @@ pub parts_are : (n : ℕ) (a : Algebra) (parts : List (JetTerms (Ext Frac))) →
 unfolding jet_at
 parts_are n a parts = fun_ext λ i. ap (poly_of n (value_in a)) (same_jet n parts i) ∙ sym (terms_in-poly_of n a (slice_index_or parts i (record { n = n; order = 0; terms = [] })).terms)
 
-zero_is : (a : Algebra) → (ops a).zero ≡ value_in a zero_element
-unfolding value_in scalars quadratic_scalars cubic_scalars
-zero_is algebras.Rational = refl
-zero_is (algebras.Quadratic m1 m0) = refl
-zero_is (algebras.Cubic m2 m1 m0) = refl
-
-entry_is : (a : Algebra) (es : List (Ext Frac)) (p : ℕ) → get_or (map (value_in a) es) p (ops a).zero ≡ value_in a (slice_index_or es p zero_element)
-entry_is a [] p = zero_is a
-entry_is a (e ∷ es) zero = refl
-entry_is a (e ∷ es) (suc p) = entry_is a es p
-
 -- the entries of a matrix as a report has them
 pub entries_are : (n : ℕ) (a : Algebra) (es : List (Ext Frac)) → entry_of (algebra_meaning a) n es ≡ (λ i k. value_at a es (n * i + k))
-unfolding value_at
-entries_are n a es = fun_ext λ i. fun_ext λ k. entry_is a es (n * i + k)
+entries_are n a es = fun_ext λ i. fun_ext λ k. get_or-values a es (n * i + k)
 
 -- ---- what well-formedness says of the change
 

@@ -9,9 +9,9 @@ ghost use Rattle.jet_poly.specs.Jets.{IsJet};
 ghost use Rattle.jet_subst.specs.Parts.{variables_of, part_of, IsPart};
 ghost use Rattle.jet_subst.specs.Substitutions.{IsSubstHigh};
 
-use crate::terms::are_same_terms;
 use jet_poly::JetOf;
 use jet_subst::subst;
+use report_jet::are_same_terms;
 use ring_law::{Fault, Ring};
 use std::alloc::Global;
 

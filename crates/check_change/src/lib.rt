@@ -5,7 +5,6 @@
 mod carry;
 mod inverse;
 mod item;
-mod terms;
 
 pub use carry::is_carried_jet;
 pub use inverse::is_inverse_matrix;

@@ -1,4 +1,3 @@
-mod Pairs
 mod Quotients
 mod Elements
 mod Reports

@@ -1,5 +1,5 @@
 -- What the reading of a line says of the items that speak of it.
-use Rattle.std.proofs.Common.{◌≡◌, ◌≢◌, ℕ, zero, suc, ◌+◌, ◌<◌, ◌≤◌, Bool, true, false, IsTrue, ◌↔◌, List, [], ◌∷◌, map, length, max, ◌⊎◌, inl, inr, refl, sym, ap, subst, ◌∙◌, true≢false, arith, eqb-true, eq-eqb, leb-true, ltb-true, lt-ltb, le-leb, get_or}
+use Rattle.std.proofs.Common.{◌≡◌, ◌≢◌, ℕ, ◌+◌, ◌<◌, ◌≤◌, Bool, true, false, IsTrue, ◌↔◌, List, [], ◌∷◌, map, length, max, ◌⊎◌, inl, inr, refl, sym, ap, subst, ◌∙◌, true≢false, arith, eqb-true, eq-eqb, leb-true, ltb-true, lt-ltb, le-leb}
 use Rattle.std.specs.Prelude.{◌==◌, ◌||◌, ◌&&◌, nat_lt, nat_le}
 use Rattle.std.specs.List.{list_all}
 use Rattle.std.proofs.lemmas.Bool.Decides.{nat_tests}
@@ -23,7 +23,7 @@ use Rattle.report_law.specs.Right.{IsRead, IsHighLine}
 use Rattle.line_jet_law.specs.LineJets.{order_limit}
 use Rattle.report_law.proofs.Splitting.{and_both}
 use Rattle.report_law.proofs.Exclusions.{large_line, large_spelled, small_excludes, grammar_excludes, critical_excludes, one_front, one_literal, one_variable_name}
-use Rattle.report_law.proofs.Names.{line_names, name_text-name_of, name_valid, names_of_words, words_of_names, one_name, one_list_of_names}
+use Rattle.report_law.proofs.Names.{line_names, linear_is, names_of_words, words_of_names, one_name, one_list_of_names}
 use Rattle.check_line.specs.declared.tested.Tested.{Tested}
 use Rattle.check_line.specs.declared.tested.Tested.TheVariants as tested
 use Rattle.check_line.specs.Tests.{IsTested}
@@ -99,29 +99,6 @@ pub literal_no_linear : (bytes : List ℕ) (found : ℕ) (w : Word) → IsLitera
 literal_no_linear bytes found w r h =
     let s = large_line bytes r.before r.error in
     s.not_small (subst (λ l. IsTrue (has_small_literals l)) (one_line bytes h.line s.line_is h.spells s.spells) h.small)
-
--- a name of a line
-name_at : (names : List Word) (i : ℕ) → list_all is_name names ≡ true → i < length names → is_name (get_or names i []) ≡ true
-name_at [] i all h = absurd (omega arith)
-name_at (x ∷ xs) zero all h = and_left (is_name x) (list_all is_name xs) all
-name_at (x ∷ xs) (suc i) all h = name_at xs i (and_right (is_name x) (list_all is_name xs) all) (omega arith)
-
-pub linear_is : (bytes : List ℕ) (v : Name) → IsLinearIn bytes v → IsNotCritical bytes (name_text v) × IsTrue (is_valid_name v)
-linear_is bytes v h =
-    let line = h.linear.line in
-    let within : h.place < length h.names = subst (λ ns. h.place < length ns) h.linear.names_are h.linear.first.within in
-    let word : Word = get_or h.names h.place [] in
-    let is_word : is_name word ≡ true = name_at h.names h.place (subst (λ ns. list_all is_name ns ≡ true) h.linear.names_are (line_names line h.linear.spells.is_line)) within in (
-      record {
-        line = line;
-        spells = h.linear.spells;
-        small = h.linear.small;
-        place = h.place;
-        first = h.linear.first;
-        variable_is = ap name_text h.variable_is ∙ name_text-name_of word is_word ∙ sym (ap (λ ns. get_or ns h.place []) h.linear.names_are);
-      },
-      ap is_valid_name h.variable_is ∙ name_valid word is_word,
-    )
 
 -- the first variable with a linear coefficient has one name
 pub one_linear : (bytes : List ℕ) (v w : Name) → IsTrue (is_valid_name w) → IsLinearIn bytes v → (v ≡ w) ↔ IsNotCritical bytes (name_text w)

@@ -3,12 +3,10 @@ use mathlib.Core.Path.{fun_ext}
 use Rattle.std.proofs.Common.{◌≡◌, ℕ, zero, suc, ◌<◌, ◌≤◌, true, List, [], ◌∷◌, ◌++◌, map, length, get_or, sum, refl, sym, ap, ap₂, subst, ◌∙◌, arith}
 use Rattle.std.specs.Prelude.{nat_le}
 use Rattle.std.specs.List.{AllByRecursion, list_all}
+use Rattle.std.proofs.lemmas.List.Elements.{All-from_recursion, recursion_from_All}
 use Rattle.line_syntax.proofs.Bools.{and_left, and_right}
 use Rattle.ring_theory.specs.Ring.{RingOps}
 use Rattle.ring_law.specs.declared.fraction.Frac.{Frac}
-use Rattle.ext_theory.specs.ExtensionScalars.{quadratic_scalars, cubic_scalars}
-use Rattle.ext_algebra.specs.declared.algebra.Algebra.{Algebra}
-use Rattle.ext_algebra.specs.declared.algebra.Algebra.TheVariants as algebras
 use Rattle.ext_algebra.specs.declared.algebra.Ext.{Ext}
 use Rattle.ext_algebra.specs.Algebra.{Value, ops, scalars, value_in, algebra_meaning}
 use Rattle.ext_algebra.specs.AlgebraLaws.{algebra_scalar_laws}
@@ -23,40 +21,28 @@ use Rattle.mono_exp.proofs.Counting.{below_are_long}
 use Rattle.mono_exp.proofs.Lists.{map-map}
 use Rattle.jet_law.specs.Terms.{exp_of}
 use Rattle.jet_law.proofs.TermLemmas.{degree-exp_of}
+use Rattle.jet_poly.proofs.GatheredLemmas.{weaker}
 use Rattle.jacobian_row.specs.Rows.{polynomial_at}
 use Rattle.jacobian_row.proofs.ListSteps.{same_default}
 use Rattle.milnor_alg.specs.declared.quotient.TableRow.{TableRow}
+use Rattle.determinacy.specs.Tests.{IsMonomialIn}
 use Rattle.normal_forms.specs.Monomials.{in_eight, monomials_to}
 use Rattle.cert_text.specs.declared.report.Carried.{Carried}
 use Rattle.cert_text.specs.declared.report.Named as named_type
 use Rattle.cert_text.specs.WellFormed.{IsWellFormedNamed, IsWellFormedTableRow, is_residual_monomial, is_monomial_in}
-use Rattle.report_law.specs.Polynomials.{value_at, zero_element, jet_at}
+use Rattle.report_law.specs.Polynomials.{value_at, jet_at}
 use Rattle.report_law.specs.Items.{residual_of, basis_of, values_of_row, IsMilnorTable}
-use Rattle.report_jet.proofs.ReportJets.{monomial_inside}
+use Rattle.report_law.proofs.Listing.{listed_as, kept_list, same_monomials_to}
+use Rattle.report_jet.proofs.ReportJets.{get_or-values}
 use Rattle.check_rows.specs.Lists.{ArePartialLists, list_at}
 use Rattle.check_rows.specs.Products.{sum_of_products}
 use Rattle.check_rows.proofs.RowLemmas as row_lemmas
-use Rattle.check_rows.proofs.ReportLemmas.{jets_at, monomial_eight}
-use Rattle.check_rows.proofs.Listing.{IsEight, listed_as, kept_list, same_monomials_to}
+use Rattle.check_rows.proofs.ReportLemmas.{jets_at}
 use Rattle.check_milnor.specs.Milnor.{IsWhole}
 use Rattle.check_quotient.specs.Tables as images
 use Rattle.table_rows.specs.Tables as rows
+use Rattle.check_milnor.proofs.Requirements.{basis_inside, table_monomials}
 use Rattle.check_milnor.proofs.TableRows.{of_rows, to_rows}
-
--- ---- elements by their places
-
-zero_is : (a : Algebra) → (ops a).zero ≡ value_in a zero_element
-unfolding value_in scalars quadratic_scalars cubic_scalars
-zero_is algebras.Rational = refl
-zero_is (algebras.Quadratic m1 m0) = refl
-zero_is (algebras.Cubic m2 m1 m0) = refl
-
--- the values of a row as a report has them
-entry_is : (a : Algebra) (es : List (Ext Frac)) (p : ℕ) → get_or (map (value_in a) es) p (ops a).zero ≡ value_at a es p
-unfolding value_at
-entry_is a [] p = zero_is a
-entry_is a (e ∷ es) zero = refl
-entry_is a (e ∷ es) (suc p) = entry_is a es p
 
 module _ (r : named_type.Named) where
   abbrev c : Carried
@@ -79,10 +65,6 @@ module _ (r : named_type.Named) where
 
   -- ---- the monomials of the table
 
-  table_eight : (rows : List (TableRow (Ext Frac))) → AllByRecursion (IsWellFormedTableRow c size) rows → AllByRecursion (IsEight n) (map (λ row. row.monomial) rows)
-  table_eight [] h = tt
-  table_eight (row ∷ rows) h = (monomial_eight n row.monomial (and_left (is_monomial_in n row.monomial) (nat_le (sum row.monomial.e) 17) h.0.monomial), table_eight rows h.1)
-
   pub monomials_to_whole : IsWellFormedNamed r → map (λ row. row.monomial) table ≡ map in_eight (monomials_to n c.order) → IsWhole r
   monomials_to_whole w e =
       let few : n ≤ 8 = let p = w.carried.corank in let q = w.carried.few_names in omega arith in
@@ -92,37 +74,26 @@ module _ (r : named_type.Named) where
 
   pub whole_to_monomials : IsWellFormedNamed r → IsWhole r → map (λ row. row.monomial) table ≡ map in_eight (monomials_to n c.order)
   whole_to_monomials w e =
-      listed_as n (map (λ row. row.monomial) table) (monomials_below n (suc c.order)) (table_eight table w.table)
+      listed_as n (map (λ row. row.monomial) table) (monomials_below n (suc c.order)) (table_monomials r w)
       (map-map (λ (b : Exp). exponents n b.e) (λ (row : TableRow (Ext Frac)). row.monomial) table ∙ e)
       ∙ ap (map in_eight) (sym (same_monomials_to n c.order))
 
   -- ---- the basis
 
-  basis_inside : (bs : List Exp) → list_all (is_residual_monomial c) bs ≡ true → (i : ℕ) (d : Exp) → i < length bs → degree (exps n) (exp_of n (get_or bs i d)) ≡ sum (get_or bs i d).e
-  basis_inside [] h i d l = absurd (omega arith)
-  basis_inside (b ∷ bs) h zero d l =
-      degree-exp_of n b (monomial_inside n b (and_left (is_monomial_in n b) (nat_le (sum b.e) 17) (and_left (is_residual_monomial c b) (list_all (is_residual_monomial c) bs) h)))
-  basis_inside (b ∷ bs) h (suc i) d l = basis_inside bs (and_right (is_residual_monomial c b) (list_all (is_residual_monomial c) bs) h) i d (omega arith)
-
-  at_index : (P : Exp → Type 0) (bs : List Exp) → AllByRecursion P bs → (i : ℕ) (d : Exp) → i < length bs → P (get_or bs i d)
-  at_index P [] h i d l = absurd (omega arith)
-  at_index P (b ∷ bs) h zero d l = h.0
-  at_index P (b ∷ bs) h (suc i) d l = at_index P bs h.1 i d (omega arith)
-
-  by_index : (P : Exp → Type 0) (bs : List Exp) (d : Exp) → ((i : ℕ) → i < length bs → P (get_or bs i d)) → AllByRecursion P bs
-  by_index P [] d h = tt
-  by_index P (b ∷ bs) d h = (h 0 (omega arith), by_index P bs d (λ i l. h (suc i) (omega arith)))
+  basis_degree : IsWellFormedNamed r → (i : ℕ) (d : Exp) → i < size → degree (exps n) (exp_of n (get_or basis i d)) ≡ sum (get_or basis i d).e
+  basis_degree w i d h = degree-exp_of n (get_or basis i d) (basis_inside r w i d h)
 
   pub low_to : IsWellFormedNamed r → AllByRecursion (λ b. sum b.e ≤ c.order) basis → (i : ℕ) → i < size → degree (exps n) (basis_of r i) ≤ c.order
-  low_to w h i l = let d = basis_inside basis w.basis i (in_eight []) l in let s = at_index (λ b. sum b.e ≤ c.order) basis h i (in_eight []) l in omega (arith, d, s)
+  low_to w h i l = let d = basis_degree w i (in_eight []) l in let s = All-from_recursion (λ b. sum b.e ≤ c.order) basis h i (in_eight []) l in omega (arith, d, s)
 
   pub low_from : IsWellFormedNamed r → ((i : ℕ) → i < size → degree (exps n) (basis_of r i) ≤ c.order) → AllByRecursion (λ b. sum b.e ≤ c.order) basis
-  low_from w h = by_index (λ b. sum b.e ≤ c.order) basis (in_eight []) (λ i l. let d = basis_inside basis w.basis i (in_eight []) l in let s = h i l in omega (arith, d, s))
+  low_from w h =
+      recursion_from_All (λ b. sum b.e ≤ c.order) basis (λ i d l. let e = basis_degree w i d l in let s : degree (exps n) (exp_of n (get_or basis i d)) ≤ c.order = subst (λ b. degree (exps n) (exp_of n b) ≤ c.order) (same_default basis i (in_eight []) d l) (h i l) in omega (arith, e, s))
 
   -- ---- the values
 
   pub values_are : (b : ExpList n) (j : ℕ) → images.value_in (algebra_meaning c.algebra) n table b j ≡ values_of_row r b j
-  values_are b j = entry_is c.algebra (images.row_in n table b).values j
+  values_are b j = get_or-values c.algebra (images.row_in n table b).values j
 
   -- ---- the rows
 
@@ -138,7 +109,7 @@ module _ (r : named_type.Named) where
       sum_to-cong (poly_ops (exps n) ring) size
       (λ j. scale (exps n) ring (rows.values_in (algebra_meaning c.algebra) row j) (term (exps n) ring (rows.basis_in n basis j)))
       (λ j. scale (exps n) ring (value_at c.algebra row.values j) (term (exps n) ring (basis_of r j)))
-      (λ j h. ap₂ (λ v b. scale (exps n) ring v (term (exps n) ring b)) (entry_is c.algebra row.values j) (ap (exp_of n) (same_default basis j (record { e = [] }) (in_eight []) h)))
+      (λ j h. ap₂ (λ v b. scale (exps n) ring v (term (exps n) ring b)) (get_or-values c.algebra row.values j) (ap (exp_of n) (same_default basis j (record { e = [] }) (in_eight []) h)))
 
   combination_same : (partials : List (List (Exp × Ext Frac))) → ArePartialLists (algebra_meaning c.algebra) n (residual_of c) partials → (row : TableRow (Ext Frac))
       → sum_of_products n ring (polynomial_at n (value_in c.algebra) row.multipliers) (list_at n (value_in c.algebra) partials) ≡ combination (exps n) ring (jet_at n c.algebra row.multipliers) (residual_of c)
@@ -159,17 +130,13 @@ module _ (r : named_type.Named) where
       subst (SameTo (exps n) ring c.order (rows.difference_of (algebra_meaning c.algebra) n basis row)) (sym (combination_same partials are row))
       (subst (λ z. SameTo (exps n) ring c.order (term (exps n) ring (exp_of n row.monomial) ++ (poly_ops (exps n) ring).neg z) (combination (exps n) ring (jet_at n c.algebra row.multipliers) (residual_of c))) (sym (basis_same row)) h)
 
-  each_to : (P Q : TableRow (Ext Frac) → Type 0) → ((row : TableRow (Ext Frac)) → P row → Q row) → (rs : List (TableRow (Ext Frac))) → AllByRecursion P rs → AllByRecursion Q rs
-  each_to P Q f [] h = tt
-  each_to P Q f (row ∷ rs) h = (f row h.0, each_to P Q f rs h.1)
-
   pub rows_to : IsWhole r → (partials : List (List (Exp × Ext Frac))) → ArePartialLists (algebra_meaning c.algebra) n (residual_of c) partials → AllByRecursion (Printed partials) table
       → (b : ExpList n) → degree (exps n) b ≤ c.order → IsTrueRow b (images.row_in n table b)
-  rows_to whole partials are h = of_rows n c.order table whole IsTrueRow (each_to (Printed partials) (λ row. IsTrueRow (exp_of n row.monomial) row) (true_row partials are) table h)
+  rows_to whole partials are h = of_rows n c.order table whole IsTrueRow (weaker (Printed partials) (λ row. IsTrueRow (exp_of n row.monomial) row) (true_row partials are) table h)
 
   pub rows_from : IsWhole r → (partials : List (List (Exp × Ext Frac))) → ArePartialLists (algebra_meaning c.algebra) n (residual_of c) partials
       → ((b : ExpList n) → degree (exps n) b ≤ c.order → IsTrueRow b (images.row_in n table b)) → AllByRecursion (Printed partials) table
-  rows_from whole partials are h = each_to (λ row. IsTrueRow (exp_of n row.monomial) row) (Printed partials) (printed_row partials are) table (to_rows n c.order table whole IsTrueRow h)
+  rows_from whole partials are h = weaker (λ row. IsTrueRow (exp_of n row.monomial) row) (Printed partials) (printed_row partials are) table (to_rows n c.order table whole IsTrueRow h)
 
   -- ---- the whole item
 

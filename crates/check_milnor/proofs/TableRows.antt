@@ -1,44 +1,22 @@
 -- A table with a row for each monomial up to a degree, in order: the row of a monomial is the one with its number.
-use Rattle.std.proofs.Common.{◌≡◌, ℕ, zero, suc, ◌<◌, ◌≤◌, List, [], ◌∷◌, map, length, get_or, sum, sym, ap, subst, ◌∙◌, arith}
+use Rattle.std.proofs.Common.{◌≡◌, ℕ, suc, ◌<◌, ◌≤◌, List, map, length, get_or, sym, ap, subst, ◌∙◌, arith}
 use Rattle.std.specs.List.{AllByRecursion}
+use Rattle.std.proofs.lemmas.List.{length-map, get_or-map, get_or_default}
+use Rattle.std.proofs.lemmas.List.Elements.{All-from_recursion, recursion_from_All}
 use Rattle.poly_law.specs.ExpList.{ExpList, exps}
 use Rattle.poly_law.specs.Exps.{degree, same}
 use Rattle.poly_law.proofs.ExpLists.{exps_are}
 use Rattle.poly_law.proofs.ExpLaws
 use Rattle.mono_exp.specs.declared.exponent.Exp.{Exp}
-use Rattle.mono_exp.specs.Exponents.{exponents, monomials_of, monomials_below}
-use Rattle.mono_exp.proofs.Lists.{Each, each-append, each-weaker, each-at, map-map}
-use Rattle.mono_exp.proofs.Counting.{IsOf, monomials_are_of}
+use Rattle.mono_exp.specs.Exponents.{exponents, monomials_below}
+use Rattle.mono_exp.proofs.Lists.{map-map}
 use Rattle.jet_law.specs.Terms.{exp_of}
 use Rattle.jacobian_row.specs.Numbers.{number}
-use Rattle.jacobian_row.proofs.NumberLemmas.{number_injective, number_below, sum-entries}
-use Rattle.jacobian_row.proofs.MultipleLemmas.{below-split}
+use Rattle.jacobian_row.proofs.NumberLemmas.{number_injective, number_below}
+use Rattle.determinacy.proofs.FailureLemmas.{degree_below}
 use Rattle.jet_quotient.proofs.ListFacts
 use Rattle.milnor_alg.specs.declared.quotient.TableRow.{TableRow}
 use Rattle.check_quotient.specs.Tables.{no_row, row_in}
-
-below_none : (n : ℕ) → Each (λ m. sum m < 0) (monomials_below n 0)
-unfolding monomials_below
-below_none n = tt
-
--- all monomials of degree below d have degree below d
-pub below_low : (n d : ℕ) → Each (λ m. sum m < d) (monomials_below n d)
-below_low n zero = below_none n
-below_low n (suc d) =
-    subst (Each (λ m. sum m < suc d)) (sym (below-split n d))
-    (each-append (λ m. sum m < suc d) (monomials_below n d) (monomials_of n d)
-    (each-weaker (λ m. sum m < d) (λ m. sum m < suc d) (λ m h. omega arith) (monomials_below n d) (below_low n d))
-    (each-weaker (IsOf n d) (λ m. sum m < suc d) (λ m h. let e = h.degree in omega arith) (monomials_of n d) (monomials_are_of n d)))
-
--- what holds at each index
-by_index : {X : Type 0} (P : X → Type 0) (xs : List X) (d : X) → ((i : ℕ) → i < length xs → P (get_or xs i d)) → AllByRecursion P xs
-by_index P [] d h = tt
-by_index P (x ∷ xs) d h = (h 0 (omega arith), by_index P xs d (λ i l. h (suc i) (omega arith)))
-
-at_index : {X : Type 0} (P : X → Type 0) (xs : List X) (d : X) → AllByRecursion P xs → (i : ℕ) → i < length xs → P (get_or xs i d)
-at_index P [] d h i l = absurd (omega arith)
-at_index P (x ∷ xs) d h zero l = h.0
-at_index P (x ∷ xs) d h (suc i) l = at_index P xs d h.1 i (omega arith)
 
 module _ {E : Type 0} (n k : ℕ) (table : List (TableRow E)) (whole : map (λ row. exponents n row.monomial.e) table ≡ monomials_below n (suc k)) where
   abbrev none : TableRow E
@@ -51,10 +29,10 @@ module _ {E : Type 0} (n k : ℕ) (table : List (TableRow E)) (whole : map (λ r
   list = map-map (λ (a : Exp). exponents n a.e) (λ (row : TableRow E). row.monomial) table ∙ whole
 
   size : length monomials ≡ length table
-  size = ListFacts.length-images (λ (row : TableRow E). row.monomial) table
+  size = length-map table (λ (row : TableRow E). row.monomial)
 
   monomial_at : (i : ℕ) → i < length table → (a : Exp) → get_or monomials i a ≡ (get_or table i none).monomial
-  monomial_at i h a = ListFacts.get_or-images (λ (row : TableRow E). row.monomial) table i none a h
+  monomial_at i h a = get_or-map (λ (row : TableRow E). row.monomial) table i none a h
 
   number_at : (i : ℕ) → i < length table → number n (exp_of n (get_or table i none).monomial) ≡ i
   number_at i h =
@@ -81,12 +59,8 @@ module _ {E : Type 0} (n k : ℕ) (table : List (TableRow E)) (whole : map (λ r
 
   degree_at : (i : ℕ) → i < length table → degree (exps n) (exp_of n (get_or table i none).monomial) ≤ k
   degree_at i h =
-      let low : Each (λ m. sum m < suc k) (map (λ row. exponents n row.monomial.e) table) = subst (Each (λ m. sum m < suc k)) (sym whole) (below_low n (suc k)) in
-      let inside : i < length (map (λ (row : TableRow E). exponents n row.monomial.e) table) = subst (λ l. i < l) (sym (ListFacts.length-images (λ (row : TableRow E). exponents n row.monomial.e) table)) h in
-      let here : sum (get_or (map (λ row. exponents n row.monomial.e) table) i []) < suc k = each-at (λ m. sum m < suc k) (map (λ row. exponents n row.monomial.e) table) i [] inside low in
-      let there : sum (exponents n (get_or table i none).monomial.e) < suc k = subst (λ z. sum z < suc k) (ListFacts.get_or-images (λ (row : TableRow E). exponents n row.monomial.e) table i none [] h) here in
-      let d : sum (exponents n (get_or table i none).monomial.e) ≡ degree (exps n) (exp_of n (get_or table i none).monomial) = sum-entries n (exp_of n (get_or table i none).monomial) in
-      omega (arith, there, d)
+      degree_below n k (exp_of n (get_or table i none).monomial)
+      (let e = number_at i h in let c = ListFacts.count-list n (suc k) monomials list in let s = size in omega arith)
 
   row_self : (i : ℕ) → i < length table → row_in n table (exp_of n (get_or table i none).monomial) ≡ get_or table i none
   row_self i h =
@@ -97,10 +71,11 @@ module _ {E : Type 0} (n k : ℕ) (table : List (TableRow E)) (whole : map (λ r
   of_rows Q all b low =
       let row = get_or table (number n b) none in
       subst (Q b) (sym (row_is b low))
-      (subst (λ x. Q x row) (monomial_is b low) (at_index (λ row. Q (exp_of n row.monomial) row) table none all (number n b) (place_within b low)))
+      (subst (λ x. Q x row) (monomial_is b low) (All-from_recursion (λ row. Q (exp_of n row.monomial) row) table all (number n b) none (place_within b low)))
 
   -- and the other way round
   pub to_rows : (Q : ExpList n → TableRow E → Type 0) → ((b : ExpList n) → degree (exps n) b ≤ k → Q b (row_in n table b)) → AllByRecursion (λ row. Q (exp_of n row.monomial) row) table
   to_rows Q h =
-      by_index (λ row. Q (exp_of n row.monomial) row) table none (λ i l.
-      subst (Q (exp_of n (get_or table i none).monomial)) (row_self i l) (h (exp_of n (get_or table i none).monomial) (degree_at i l)))
+      recursion_from_All (λ row. Q (exp_of n row.monomial) row) table (λ i d l.
+      subst (λ row. Q (exp_of n row.monomial) row) (get_or_default table i none d l)
+      (subst (Q (exp_of n (get_or table i none).monomial)) (row_self i l) (h (exp_of n (get_or table i none).monomial) (degree_at i l))))

@@ -1,5 +1,5 @@
 -- Rows of a table by their monomials, and the values that are read of them.
-use Rattle.std.proofs.Common.{◌≡◌, ℕ, zero, suc, ◌<◌, ◌≤◌, Bool, false, ◌&&◌, eqb, List, [], map, length, get_or, refl, sym, ap, ap₂, subst, ◌∙◌, arith}
+use Rattle.std.proofs.Common.{◌≡◌, ℕ, zero, suc, ◌<◌, ◌≤◌, Bool, List, [], map, length, get_or, refl, sym, ap, subst, ◌∙◌}
 use Rattle.std.specs.Prelude.{unwrap_or}
 use Rattle.std.specs.List.{position_or_len}
 use Rattle.std.proofs.lemmas.List.{length-map, get_or-map, get_or_default}
@@ -7,29 +7,11 @@ use Rattle.std.proofs.lemmas.List.Folds.{find_at}
 use Rattle.std.proofs.lemmas.Option.{unwrap_or-slice_get}
 use Rattle.std.proofs.Math.ListN.{get_or-eq_default}
 use Rattle.ring_theory.specs.Scalars.{Meaning}
-use Rattle.poly_law.specs.Exps.{same, all_to}
+use Rattle.poly_law.specs.Exps.{same}
 use Rattle.poly_law.specs.ExpList.{ExpList, exps}
-use Rattle.poly_law.proofs.ExpLists.{exps_are}
-use Rattle.poly_law.proofs.ExpLaws
-use Rattle.mono_exp.specs.declared.exponent.Exp.{Exp}
 use Rattle.jet_law.specs.Terms.{exp_of}
-use Rattle.jet_law.proofs.TermLemmas.{at-exp_of}
 use Rattle.milnor_alg.specs.declared.quotient.TableRow.{TableRow}
 use Rattle.check_quotient.specs.Tables.{no_row, row_in, value_in}
-
-all_same : (k : ℕ) (p q : ℕ → Bool) → ((i : ℕ) → i < k → p i ≡ q i) → all_to k p ≡ all_to k q
-all_same zero p q h = refl
-all_same (suc k) p q h = ap₂ (λ a b. a && b) (all_same k p q (λ i g. h i (omega arith))) (h k (omega arith))
-
--- the test of equality place by place
-pub same_places : (n : ℕ) (a b : Exp) → all_to n (λ i. eqb (get_or a.e i 0) (get_or b.e i 0)) ≡ same (exps n) (exp_of n a) (exp_of n b)
-same_places n a b =
-    all_same n (λ i. eqb (get_or a.e i 0) (get_or b.e i 0)) (λ i. eqb ((exps n).at (exp_of n a) i) ((exps n).at (exp_of n b) i)) λ i h. ap₂ eqb (sym (at-exp_of n a i h)) (sym (at-exp_of n b i h))
-
--- monomials that differ in a place differ
-pub differ_in : (n : ℕ) (a b : Exp) (i : ℕ) → i < n → (get_or a.e i 0 ≡ get_or b.e i 0 → ⊥) → false ≡ same (exps n) (exp_of n a) (exp_of n b)
-differ_in n a b i h apart =
-    sym (ExpLaws.same-no (exps n) (exps_are n) (exp_of n a) (exp_of n b) (λ e. apart (sym (at-exp_of n a i h) ∙ ap (λ z. (exps n).at z i) e ∙ at-exp_of n b i h)))
 
 -- what holds of an element holds of it however it is read
 pub read_as : {X : Type 0} (P : X → Type 0) (xs : List X) (i : ℕ) (d e : X) → i < length xs → P (get_or xs i d) → P (get_or xs i e)

@@ -1,9 +1,9 @@
 //! The linear map of a table at polynomials, and whether it is 0 on multiples of partials.
 
-ghost use Rattle.std.specs.Prelude.{◌≡◌, ◌<◌, ◌≤◌, ◌^◌, ◌++◌, [], ◌∷◌, ◌↔◌, All, IsTrue, IfOk, OnOk, length, map};
+ghost use Rattle.std.specs.Prelude.{◌≡◌, ◌<◌, ◌≤◌, ◌++◌, [], ◌∷◌, ◌↔◌, All, IsTrue, IfOk, OnOk, length, map};
 ghost use Rattle.std.specs.List.{AllByRecursion};
 ghost use Rattle.ring_theory.specs.Scalars.{sum_of};
-ghost use Rattle.ring_law.specs.Refusals.{OnFault, OnRange};
+ghost use Rattle.ring_law.specs.Refusals.{OnFault};
 ghost use Rattle.poly_law.specs.Exps.{plus};
 ghost use Rattle.poly_law.specs.ExpList.{exps};
 ghost use Rattle.poly_law.specs.Polynomials.{cut_in};
@@ -15,10 +15,11 @@ ghost use Rattle.check_rows.specs.Lists.{AreTermsIn, list_at};
 ghost use Rattle.check_quotient.specs.Tables.{AreValuesIn, image_products, product_heights, image_heights, IsInKernel, IsImageHigh, IsMultipleInKernel, AreImagesHigh};
 
 use crate::lookup::value_at;
+use check_rows::sum_of_list;
 use jacobian_row::Multiple;
 use milnor_alg::TableRow;
 use mono_exp::{Exp, degree, times};
-use ring_law::{Fault, Range, Ring};
+use ring_law::{Fault, Ring};
 use sqlite_items::Items;
 use std::alloc::Global;
 
@@ -100,21 +101,6 @@ fn products<R: Ring>(
         all.push(x)?;
     }
     Ok(all)
-}
-
-// The sum of a list of elements.
-fn sum_of_list<R: Ring>(ring: &R, xs: &[R::Elem]) -> Result<R::Elem, Range>
-    requires ring { R.is_ring ring.now }
-    requires elems { AllByRecursion (R.meaning ring.now).is_elem xs.now }
-    ensures elem { IfOk result (R.meaning ring.now).is_elem }
-    ensures sum { IfOk result (λ x. let m = R.meaning ring.now in m.value x ≡ sum_of m.scalars.ops (map m.value xs.now)) }
-    ensures range { OnRange result (let m = R.meaning ring.now in 2 ^ 120 ≤ m.scalars.sum_height (map m.value xs.now)) }
-{
-    let mut total = ring.zero();
-    for x in xs {
-        total = ring.add(total, *x)?;
-    }
-    Ok(total)
 }
 
 // The value of the map of the table at f in place j.

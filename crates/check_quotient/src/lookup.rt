@@ -9,20 +9,8 @@ ghost use Rattle.check_quotient.specs.Tables.{AreValuesIn, value_in};
 
 use milnor_alg::TableRow;
 use mono_exp::Exp;
+use report_jet::is_same_monomial;
 use ring_law::Ring;
-
-// True where two monomials have the same exponents in the first n variables.
-fn is_same(n: u8, a: Exp, b: Exp) -> bool
-    requires { n ≤ 8 }
-    ensures { result ≡ same (exps n) (exp_of n a) (exp_of n b) }
-{
-    for i in 0..usize::from(n) {
-        if a.e[i] != b.e[i] {
-            return false;
-        }
-    }
-    true
-}
 
 /// The place of the first row of a monomial, and the length of the table where it has none.
 pub(crate) fn place_of<E>(n: u8, table: &[TableRow<E>], a: Exp) -> usize
@@ -31,7 +19,7 @@ pub(crate) fn place_of<E>(n: u8, table: &[TableRow<E>], a: Exp) -> usize
     ensures place { result ≡ position_or_len (λ row. same (exps n) (exp_of n row.monomial) (exp_of n a)) table.now }
 {
     for (place, row) in table.iter().enumerate() {
-        if is_same(n, row.monomial, a) {
+        if is_same_monomial(n, row.monomial, a) {
             return place;
         }
     }

@@ -1,7 +1,7 @@
 -- The values of a functional at multiples of partials.
 use Rattle.std.proofs.Common.{◌≡◌, ℕ, zero, suc, ◌+◌, ◌-◌, ◌<◌, ◌≤◌, ◌^◌, ◌⊎◌, inl, inr, Bool, true, false, cond, eqb, leb, le-leb, List, [], ◌∷◌, ◌++◌, map, length, get_or, take, sum, IsTrue, ◌↔◌, refl, sym, ap, ap₂, subst, ◌∙◌, append-nil, arith}
 use Rattle.std.specs.List.{All, AllByRecursion}
-use Rattle.std.proofs.lemmas.List.{length-map, map-append}
+use Rattle.std.proofs.lemmas.Bool.{cases_lt}
 use Rattle.std.proofs.lemmas.List.Elements.{All-head, All-tail}
 use Rattle.ring_theory.specs.Ring.{RingOps, IsCommRing}
 use Rattle.ring_theory.specs.Scalars.{Meaning, ScalarLaws, sum_of}
@@ -17,25 +17,25 @@ use Rattle.poly_law.proofs.Order
 use Rattle.poly_law.proofs.PolyRing
 use Rattle.mono_exp.specs.declared.exponent.Exp.{Exp}
 use Rattle.mono_exp.specs.Exponents.{IsIn, IsProduct, Divides}
-use Rattle.mono_exp.proofs.Lists.{Each, each-map}
-use Rattle.jet_law.specs.Canonical.{monomial_in}
 use Rattle.jet_law.specs.Heights.{IsHigh}
-use Rattle.jet_law.proofs.High.{high_mapped}
 use Rattle.jet_law.specs.Terms.{exp_of, poly_of}
-use Rattle.jet_law.proofs.TermLemmas.{at-exp_of, degree-exp_of, exp_of-product, poly_of-take}
+use Rattle.jet_law.proofs.TermLemmas.{at-exp_of, degree-exp_of, exp_of-product}
 use Rattle.jet_poly.specs.JetTerms.{JetTerms}
 use Rattle.jet_poly.specs.Jets.{polynomial_of}
-use Rattle.jacobian_row.specs.Multiples.{AreMultiples, pair_of, pairs_between, multiple_to}
+use Rattle.jacobian_row.specs.Multiples.{AreMultiples, multiple_to}
 use Rattle.jacobian_row.specs.Multipliers.{multiple_at}
 use Rattle.jacobian_row.specs.Rows.{polynomial_at, ArePartials}
 use Rattle.jacobian_row.specs.declared.multiple.Multiple.{Multiple}
-use Rattle.jacobian_row.proofs.Membership.{at_pair, each_unmap}
-use Rattle.jacobian_row.proofs.MultipleOrder.{IsPairOf, pairs_are, pair_is}
-use Rattle.jacobian_row.proofs.RowFacts.{monomial-exponents}
-use Rattle.jacobian_row.proofs.NumberLemmas.{exp_of-entries, sum-entries}
+use Rattle.jacobian_row.proofs.MultipleOrder.{pair_is}
+use Rattle.jacobian_row.proofs.NumberLemmas.{sum-entries}
 use Rattle.check_rows.specs.Functionals.{with_coefficients, value_heights, IsMultipleHigh, IsZeroOn, IsZeroHigh}
+use Rattle.check_rows.proofs.Multiples.{holds_of_all, all_hold}
 
 -- ---- multiples by a monomial
+
+-- 1 v is v
+pub one_mul : {V : Type 0} (r : RingOps V) → IsCommRing r → (v : V) → r.mul r.one v ≡ v
+one_mul r c v = c.mul_comm r.one v ∙ c.mul_one v
 
 module _ {V : Type 0} (n : ℕ) (r : RingOps V) (c : IsCommRing r) where
   abbrev C : Polynomial n V → ExpList n → V
@@ -60,16 +60,13 @@ module _ {V : Type 0} (n : ℕ) (r : RingOps V) (c : IsCommRing r) where
       step false e = ExpLaws.same-no (exps n) (exps_are n) (plus (exps n) a b) (plus (exps n) a d)
           (λ q. contradiction (sym (ap (λ z. same (exps n) b z) (sym (plus_cancel a b d q)) ∙ ExpLaws.same_refl (exps n) (exps_are n) b) ∙ e))
 
-  one_mul : (v : V) → r.mul r.one v ≡ v
-  one_mul v = c.mul_comm r.one v ∙ c.mul_one v
-
   -- the coefficient of x^a * f at a*q is that of f at q
   pub at_multiple : (a q : ExpList n) (f : Polynomial n V) → C (times_in n r (term_in n r a) f) (plus (exps n) a q) ≡ C f q
   at_multiple a q f = ap (λ z. C z (plus (exps n) a q)) (append-nil (times_term (exps n) r (a, r.one) f)) ∙ go f
     where
       go : (f : Polynomial n V) → C (times_term (exps n) r (a, r.one) f) (plus (exps n) a q) ≡ C f q
       go [] = refl
-      go (t ∷ f) = ap₂ r.add (ap₂ (λ b v. cond b v r.zero) (same_plus a t.0 q) (one_mul t.1)) (go f)
+      go (t ∷ f) = ap₂ r.add (ap₂ (λ b v. cond b v r.zero) (same_plus a t.0 q) (one_mul r c t.1)) (go f)
 
   -- and at a monomial that is no multiple of a it is 0
   pub no_multiple : (a b : ExpList n) (f : Polynomial n V) → ((q : ExpList n) → b ≡ plus (exps n) a q → ⊥) → C (times_in n r (term_in n r a) f) b ≡ r.zero
@@ -80,11 +77,10 @@ module _ {V : Type 0} (n : ℕ) (r : RingOps V) (c : IsCommRing r) where
       go (t ∷ f) =
           ap₂ (λ s v. r.add (cond s (r.mul r.one t.1) r.zero) v) (ExpLaws.same-no (exps n) (exps_are n) (plus (exps n) a t.0) b (λ e. no_factor t.0 (sym e))) (go f) ∙ c.add_zero r.zero
 
-  -- ---- sums of lists
-
-  pub total_is : {X : Type 0} (w : X → V) (xs : List X) → total r w xs ≡ sum_of r (map w xs)
-  total_is w [] = refl
-  total_is w (x ∷ xs) = ap (r.add (w x)) (total_is w xs)
+-- a total is the sum of the list of its summands
+pub total_is : {X V : Type 0} (r : RingOps V) (w : X → V) (xs : List X) → total r w xs ≡ sum_of r (map w xs)
+total_is r w [] = refl
+total_is r w (x ∷ xs) = ap (r.add (w x)) (total_is r w xs)
 
 -- the quotient of monomials of code
 pub product_is : (n : ℕ) (t a q : Exp) → IsProduct t.e q.e a.e → exp_of n t ≡ plus (exps n) (exp_of n a) (exp_of n q)
@@ -92,11 +88,8 @@ product_is n t a q p = exp_of-product n a q t (λ i. p i ∙ (let e : get_or q.e
 
 -- what a does not divide is no multiple of a
 pub divides_if : (n : ℕ) (t a : Exp) → IsIn n a.e → (q : ExpList n) → exp_of n t ≡ plus (exps n) (exp_of n a) q → Divides a.e t.e
-divides_if n t a unused q e i = step (below_or_not i n)
+divides_if n t a unused q e i = step (cases_lt i n)
   where
-    below_or_not : (i n : ℕ) → (i < n) ⊎ (n ≤ i)
-    below_or_not i n = grind arith
-
     step : (i < n) ⊎ (n ≤ i) → get_or a.e i 0 ≤ get_or t.e i 0
     step (inl h) =
         let p = ExpLaws.at-plus (exps n) (exps_are n) (exp_of n a) q i h in
@@ -124,7 +117,7 @@ module _ {E V : Type 0} (m : Meaning E V) (laws : ScalarLaws m.scalars) (n : ℕ
 
   -- the value is the sum of the products
   pub value_is : (values : Polynomial n V) (f : Polynomial n V) → value_on (exps n) r values f ≡ sum_of r (with_coefficients n r r.mul values f)
-  value_is values f = total_is n r laws.ring (λ t. r.mul t.1 (coefficient (exps n) r f t.0)) values
+  value_is values f = total_is r (λ t. r.mul t.1 (coefficient (exps n) r f t.0)) values
 
   pub same_value : (d : ℕ) (values : List (Exp × E)) (f g : Polynomial n V) → All (λ t. IsIn n t.0.e) values → All (λ t. sum t.0.e ≤ d) values → SameTo (exps n) r d f g → value_on (exps n) r (P values) f ≡ value_on (exps n) r (P values) g
   same_value d values f g u l e = value_is (P values) f ∙ ap (sum_of r) (same_coefficients r.mul d values f g u l e) ∙ sym (value_is (P values) g)
@@ -166,46 +159,26 @@ module _ {E V : Type 0} (m : Meaning E V) (laws : ScalarLaws m.scalars) (n : ℕ
 
   module _ (k : ℕ) (g : Polynomial n V) (partials : ℕ → Polynomial n V) (values : List (Exp × E)) (unused : All (λ t. IsIn n t.0.e) values) (low : All (λ t. sum t.0.e ≤ k + 1) values)
       (are : (i : ℕ) → i < n → Same (exps n) r (partials i) (derivative_in n r i g)) where
-    -- the functional is 0 on the multiple of a pair
-    abbrev IsZeroAt : List ℕ × ℕ → Type 0
-    IsZeroAt p = value_on (exps n) r (P values) (times_in n r (term_in n r (monomial_in n p.0)) (partials p.1)) ≡ r.zero
+    -- the functional is 0 on x^a times the partial in variable i
+    abbrev IsZeroAt : ExpList n → ℕ → Type 0
+    IsZeroAt a i = value_on (exps n) r (P values) (times_in n r (term_in n r a) (partials i)) ≡ r.zero
 
-    by_pairs : (us : List Multiple) → AllByRecursion (IsZeroOn n r (P values) partials) us → Each (λ u. IsZeroAt (pair_of n u)) us
-    by_pairs [] h = tt
-    by_pairs (u ∷ us) h = (subst (λ z. value_on (exps n) r (P values) (times_in n r (term_in n r z) (partials u.variable)) ≡ r.zero) (sym (monomial-exponents n u.factor)) h.0, by_pairs us h.1)
-
-    from_pairs : (us : List Multiple) → Each (λ u. IsZeroAt (pair_of n u)) us → AllByRecursion (IsZeroOn n r (P values) partials) us
-    from_pairs [] h = tt
-    from_pairs (u ∷ us) h = (subst (λ z. value_on (exps n) r (P values) (times_in n r (term_in n r z) (partials u.variable)) ≡ r.zero) (monomial-exponents n u.factor) h.0, from_pairs us h.1)
-
-    low_or_high : (d e : ℕ) → (d ≤ e) ⊎ (e < d)
-    low_or_high d e = grind arith
+    at_multiple_of : (a : ExpList n) (i : ℕ) → i < n → value_on (exps n) r (P values) (times_in n r (term_in n r a) (partials i)) ≡ value_on (exps n) r (P values) (multiple_to n r (k + 1) g a i)
+    at_multiple_of a i within = same_value (k + 1) values (times_in n r (term_in n r a) (partials i)) (multiple_to n r (k + 1) g a i) unused low (multiple_same (k + 1) g a i (partials i) (are i within))
 
     -- zero on the multiples of the list is zero on all
     pub zero_on_all : (us : List Multiple) → AreMultiples n 2 (k + 1) us → AllByRecursion (IsZeroOn n r (P values) partials) us
         → (a : ExpList n) (i : ℕ) → 2 ≤ degree (exps n) a → i < n → value_on (exps n) r (P values) (multiple_to n r (k + 1) g a i) ≡ r.zero
-    zero_on_all us list all a i from within = step (low_or_high (degree (exps n) a) (k + 1))
+    zero_on_all us list all a i from within = step (cases_lt (k + 1) (degree (exps n) a))
       where
-        step : (degree (exps n) a ≤ k + 1) ⊎ (k + 1 < degree (exps n) a) → value_on (exps n) r (P values) (multiple_to n r (k + 1) g a i) ≡ r.zero
-        step (inl to) =
-            let here = at_pair IsZeroAt n 2 (k + 1) (subst (Each IsZeroAt) list.list (each-map IsZeroAt (pair_of n) us (by_pairs us all))) a i from to within in
-            sym (same_value (k + 1) values (times_in n r (term_in n r a) (partials i)) (multiple_to n r (k + 1) g a i) unused low (multiple_same (k + 1) g a i (partials i) (are i within)))
-            ∙ subst (λ z. value_on (exps n) r (P values) (times_in n r (term_in n r z) (partials i)) ≡ r.zero) (exp_of-entries n a) here
-        step (inr to) = value_high (k + 1) values (multiple_to n r (k + 1) g a i) unused low (high_multiple (k + 1) g a i to)
+        step : (k + 1 < degree (exps n) a) ⊎ (degree (exps n) a ≤ k + 1) → value_on (exps n) r (P values) (multiple_to n r (k + 1) g a i) ≡ r.zero
+        step (inl high) = value_high (k + 1) values (multiple_to n r (k + 1) g a i) unused low (high_multiple (k + 1) g a i high)
+        step (inr to) = sym (at_multiple_of a i within) ∙ holds_of_all n 2 (k + 1) IsZeroAt us list all a i from to within
 
     -- and the other way round
-    zero_at : (p : List ℕ × ℕ) → IsPairOf n 2 (k + 1) p → ((a : ExpList n) (i : ℕ) → 2 ≤ degree (exps n) a → i < n → value_on (exps n) r (P values) (multiple_to n r (k + 1) g a i) ≡ r.zero) → IsZeroAt p
-    zero_at p is vanishes =
-        let a = monomial_in n p.0 in
-        let entries : (monomial_in n p.0).entries ≡ p.0 = Rattle.mono_exp.proofs.NumberLemmas.exponents-take n p.0 (let e = is.long in omega arith) ∙ Rattle.std.proofs.Common.take_all n p.0 (let e = is.long in omega arith) in
-        let from : 2 ≤ degree (exps n) (monomial_in n p.0) = (let s = sum-entries n (monomial_in n p.0) in let e = ap sum entries in let f = is.from in omega arith) in
-        same_value (k + 1) values (times_in n r (term_in n r a) (partials p.1)) (multiple_to n r (k + 1) g a p.1) unused low (multiple_same (k + 1) g a p.1 (partials p.1) (are p.1 is.variable))
-        ∙ vanishes a p.1 from is.variable
-
     pub zero_on_each : (us : List Multiple) → AreMultiples n 2 (k + 1) us → ((a : ExpList n) (i : ℕ) → 2 ≤ degree (exps n) a → i < n → value_on (exps n) r (P values) (multiple_to n r (k + 1) g a i) ≡ r.zero)
         → AllByRecursion (IsZeroOn n r (P values) partials) us
-    zero_on_each us list vanishes =
-        from_pairs us (each_unmap IsZeroAt (pair_of n) us (subst (Each IsZeroAt) (sym list.list) (Rattle.mono_exp.proofs.Lists.each-weaker (IsPairOf n 2 (k + 1)) IsZeroAt (λ p is. zero_at p is vanishes) (pairs_between n 2 (k + 1)) (pairs_are n 2 (k + 1)))))
+    zero_on_each us list vanishes = all_hold n 2 (k + 1) IsZeroAt us list (λ a i from to within. at_multiple_of a i within ∙ vanishes a i from within)
 
     -- where the value at a multiple of the list is high, some value is
     pub multiple_high : (us : List Multiple) → AreMultiples n 2 (k + 1) us → IsZeroHigh n m.scalars (P values) partials us → IsMultipleHigh n m.scalars k g (P values)
@@ -228,22 +201,6 @@ module _ {E V : Type 0} (m : Meaning E V) (laws : ScalarLaws m.scalars) (n : ℕ
       (λ yes. record { of_degree = degree_is; zero_on = λ a i from within. zero_on_all us list all a i from within; one_on = sym value ∙ decides.0 yes }),
       (λ fails. decides.1 (value ∙ fails.one_on)),
     )
-
-  -- ---- products of a functional, one after the other
-
-  pub coefficients_step : (values : List (Exp × E)) (i : ℕ) (t : Exp × E) (F : Polynomial n V) (xs : List E) (x : E) → i < length values → t ≡ get_or values i t
-      → map m.value xs ≡ with_coefficients n r r.mul (P (take i values)) F → m.value x ≡ r.mul (m.value t.1) (coefficient (exps n) r F (exp_of n t.0))
-      → map m.value (xs ++ x ∷ []) ≡ with_coefficients n r r.mul (P (take (i + 1) values)) F
-  coefficients_step values i t F xs x h e so_far product =
-      map-append m.value xs (x ∷ []) ∙ ap₂ (λ a b. a ++ b ∷ []) so_far product
-      ∙ sym (ap (λ z. with_coefficients n r r.mul z F) (poly_of-take n m.value values i t h e) ∙ map-append (λ u. r.mul u.1 (coefficient (exps n) r F u.0)) (P (take i values)) ((exp_of n t.0, m.value t.1) ∷ []))
-
-  pub product_high : (values : List (Exp × E)) (i : ℕ) (t : Exp × E) (F : Polynomial n V) → i < length values → t ≡ get_or values i t
-      → 2 ^ 120 ≤ m.scalars.product_height (m.value t.1) (coefficient (exps n) r F (exp_of n t.0)) → IsHigh (with_coefficients n r m.scalars.product_height (P values) F)
-  product_high values i t F h e high =
-      let one : Exp × E → ExpList n × V = λ t. (exp_of n t.0, m.value t.1) in
-      high_mapped (λ u. m.scalars.product_height u.1 (coefficient (exps n) m.scalars.ops F u.0)) (P values) i (one t) (subst (λ l. i < l) (sym (length-map values one)) h)
-      (ap one e ∙ sym (Rattle.std.proofs.Math.ListN.get_or-map one values i t)) high
 
 -- a quotient has no other variables
 pub quotient_in : (n : ℕ) (t a q : List ℕ) → IsProduct t q a → IsIn n t → IsIn n q

@@ -1,6 +1,6 @@
 pub mod ListLemmas
 pub mod JetLemmas
 pub mod RowLemmas
+pub mod Multiples
 pub mod FunctionalLemmas
-pub mod Listing
 pub mod ReportLemmas

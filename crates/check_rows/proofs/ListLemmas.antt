@@ -1,7 +1,7 @@
 -- Lists of terms and of products, made one after the other.
-use Rattle.std.proofs.Common.{◌≡◌, ℕ, ◌+◌, ◌<◌, Bool, true, false, cond, leb, List, [], ◌∷◌, ◌++◌, map, length, get_or, take, refl, sym, ap, ap₂, subst, ◌∙◌, append_assoc, append-nil, add-one}
+use Rattle.std.proofs.Common.{◌≡◌, ℕ, ◌+◌, ◌<◌, ◌≤◌, ◌^◌, Bool, true, false, cond, leb, List, [], ◌∷◌, ◌++◌, map, length, get_or, take, refl, sym, ap, ap₂, subst, ◌∙◌, append_assoc, append-nil, add-one}
 use Rattle.std.specs.List.{filter, flat_map}
-use Rattle.std.proofs.lemmas.List.{map-append}
+use Rattle.std.proofs.lemmas.List.{length-map, get_or-map, map-append}
 use Rattle.ring_theory.specs.Scalars.{Meaning}
 use Rattle.poly_law.specs.Sums.{sum_to}
 use Rattle.poly_law.specs.Exps.{degree, plus}
@@ -11,13 +11,29 @@ use Rattle.poly_law.specs.Polynomials.{Polynomial}
 use Rattle.mono_exp.specs.declared.exponent.Exp.{Exp}
 use Rattle.mono_exp.specs.Exponents.{IsIn}
 use Rattle.jet_law.specs.Terms.{exp_of, poly_of}
-use Rattle.jet_law.proofs.TermLemmas.{poly_of-take, poly_of-push}
+use Rattle.jet_law.proofs.TermLemmas.{poly_of-take}
 use Rattle.jet_law.proofs.Gather.{filter-append, flat_map-append}
-use Rattle.jet_law.proofs.High.{high_kept, high_in}
+use Rattle.jet_law.proofs.High.{high_kept, high_in, high_mapped}
 use Rattle.jet_law.specs.Heights.{IsHigh, products_heights}
 use Rattle.jet_poly.proofs.Output.{all-push}
 use Rattle.check_rows.specs.Lists.{AreTermsIn}
 use Rattle.check_rows.specs.Products.{multiple_heights, IsPairHigh}
+
+module _ {E V : Type 0} (n : ℕ) (value : E → V) where
+  abbrev term_of : Exp × E → ExpList n × V
+  term_of t = (exp_of n t.0, value t.1)
+
+  -- what is made of each term, and one more
+  pub mapped_step : {X Y : Type 0} (read : X → Y) (w : ExpList n × V → Y) (f : List (Exp × E)) (i : ℕ) (t : Exp × E) (xs : List X) (x : X) → i < length f → t ≡ get_or f i t → read x ≡ w (exp_of n t.0, value t.1)
+      → map read xs ≡ map w (poly_of n value (take i f)) → map read (xs ++ x ∷ []) ≡ map w (poly_of n value (take (i + 1) f))
+  mapped_step read w f i t xs x h is e so_far =
+      map-append read xs (x ∷ []) ∙ ap₂ (λ p q. p ++ q ∷ []) so_far e
+      ∙ sym (ap (map w) (poly_of-take n value f i t h is) ∙ map-append w (poly_of n value (take i f)) (term_of t ∷ []))
+
+  -- a height that is made of a term
+  pub mapped_high : (w : ExpList n × V → ℕ) (f : List (Exp × E)) (i : ℕ) (t : Exp × E) → i < length f → t ≡ get_or f i t → 2 ^ 120 ≤ w (exp_of n t.0, value t.1) → IsHigh (map w (poly_of n value f))
+  mapped_high w f i t h is high =
+      high_mapped w (poly_of n value f) i (term_of t) (subst (λ l. i < l) (sym (length-map f term_of)) h) (sym (get_or-map term_of f i t (term_of t) h ∙ ap term_of (sym is))) high
 
 module _ {E V : Type 0} (m : Meaning E V) (n : ℕ) where
   -- no terms are terms in n variables
@@ -30,15 +46,6 @@ module _ {E V : Type 0} (m : Meaning E V) (n : ℕ) where
     elems = all-push (λ t. m.is_elem t.1) xs (a, x) valid.elems el;
     unused = all-push (λ t. IsIn n t.0.e) xs (a, x) valid.unused unused;
   }
-
-  -- terms that are made of those of f, one each
-  pub changed_step : (change : ExpList n × V → ExpList n × V) (f : List (Exp × E)) (i : ℕ) (t : Exp × E) (list : List (Exp × E)) (a : Exp) (x : E) → i < length f → t ≡ get_or f i t
-      → exp_of n a ≡ (change (exp_of n t.0, m.value t.1)).0 → m.value x ≡ (change (exp_of n t.0, m.value t.1)).1
-      → poly_of n m.value list ≡ map change (poly_of n m.value (take i f)) → poly_of n m.value (list ++ (a, x) ∷ []) ≡ map change (poly_of n m.value (take (i + 1) f))
-  changed_step change f i t list a x h e ea ex so_far =
-      poly_of-push n m.value list (a, x)
-      ∙ ap₂ (λ p q. p ++ q ∷ []) so_far (λ i. (ea i, ex i))
-      ∙ sym (ap (map change) (poly_of-take n m.value f i t h e) ∙ map-append change (poly_of n m.value (take i f)) ((exp_of n t.0, m.value t.1) ∷ []))
 
   -- the products of u and one term more of h
   pub multiple_step : (k : ℕ) (old now next : Polynomial n V) (u : ExpList n × V) (h : List (Exp × E)) (i : ℕ) (t : Exp × E) → i < length h → t ≡ get_or h i t
@@ -85,7 +92,7 @@ module _ {E V : Type 0} (m : Meaning E V) (n : ℕ) where
   one t = (exp_of n t.0, m.value t.1)
 
   inside : (f : List (Exp × E)) (i : ℕ) → i < length f → i < length (poly_of n m.value f)
-  inside f i h = subst (λ l. i < l) (sym (Rattle.std.proofs.lemmas.List.length-map f one)) h
+  inside f i h = subst (λ l. i < l) (sym (length-map f one)) h
 
   read : (f : List (Exp × E)) (i : ℕ) (t : Exp × E) → t ≡ get_or f i t → one t ≡ get_or (poly_of n m.value f) i (one t)
   read f i t e = ap one e ∙ sym (Rattle.std.proofs.Math.ListN.get_or-map one f i t)

@@ -3,7 +3,7 @@ use mathlib.Core.Path.{fun_ext}
 use Rattle.std.proofs.Common.{◌≡◌, ℕ, zero, suc, ◌+◌, ◌<◌, ◌≤◌, Bool, true, false, ◌&&◌, List, [], ◌∷◌, map, length, get_or, sum, IsTrue, ◌↔◌, refl, sym, ap, subst, ◌∙◌, arith}
 use Rattle.std.specs.Prelude.{not, nat_le, drop, ◌==◌}
 use Rattle.std.specs.List.{All, AllByRecursion, list_all}
-use Rattle.std.proofs.lemmas.Bool.{leb-true, eqb-true}
+use Rattle.std.proofs.lemmas.Bool.{leb-true, eqb-true, lt-leb}
 use Rattle.std.proofs.lemmas.List.Elements.{All-from_recursion}
 use Rattle.line_syntax.proofs.Bools.{and_left, and_right}
 use Rattle.ring_law.specs.declared.fraction.Frac.{Frac}
@@ -14,24 +14,25 @@ use Rattle.poly_law.specs.ExpList.{exps}
 use Rattle.poly_law.specs.Poly.{IsMatherRow, MatherFails}
 use Rattle.mono_exp.specs.declared.exponent.Exp.{Exp}
 use Rattle.mono_exp.specs.Exponents.{IsIn, exponents}
-use Rattle.mono_exp.proofs.Lists.{map-map}
 use Rattle.jet_law.specs.Canonical.{monomial_in}
 use Rattle.jet_law.specs.Terms.{exp_of, poly_of}
 use Rattle.jet_poly.specs.JetTerms.{JetTerms}
 use Rattle.jet_poly.proofs.GatheredLemmas.{weaker}
 use Rattle.jacobian_row.specs.Rows.{IsJetIn, polynomial_at}
 use Rattle.determinacy.specs.declared.row.MatherRow.{MatherRow}
+use Rattle.determinacy.specs.Tests.{IsMonomialIn}
 use Rattle.normal_forms.specs.Monomials.{monomials_in}
 use Rattle.cert_text.specs.declared.report.Carried.{Carried}
 use Rattle.cert_text.specs.WellFormed.{IsWellFormedCarried, IsWellFormedRow, AreRows, is_monomial_in, is_residual_monomial, is_zero_element, IsWellFormedLimit}
 use Rattle.cert_text.specs.WellFormed as text
 use Rattle.report_law.specs.Polynomials.{terms_in, jet_at}
 use Rattle.report_law.specs.Items.{residual_of, IsRowOf, AreMatherRows}
-use Rattle.report_jet.proofs.ReportJets.{jet_valid, monomial_inside, element_valid}
+use Rattle.report_law.proofs.Listing.{of_degree, degree_of}
+use Rattle.report_jet.proofs.ReportJets.{jet_valid, monomial_inside, element_valid, terms_in-poly_of}
 use Rattle.check_rows.specs.Rows.{IsRowShape, AreRowsAt, AreRowsHigh, row_at}
 use Rattle.check_rows.specs.Functionals.{AreValuesHigh}
 use Rattle.check_rows.specs.ItemHeights.{IsMatherHigh}
-use Rattle.check_rows.proofs.Listing.{IsEight, of_degree, degree_of}
+use Rattle.check_rows.proofs.RowLemmas.{exponents_of}
 
 -- ---- what well-formed rows are
 
@@ -39,8 +40,8 @@ few_variables : (c : Carried) → IsWellFormedCarried c → c.corank ≤ 8
 few_variables c w = let a = w.corank in let b = w.few_names in omega arith
 
 -- a residual monomial
-pub monomial_eight : (n : ℕ) (a : Exp) → is_monomial_in n a ≡ true → IsEight n a
-monomial_eight n a h = record {
+pub monomial_of : (n : ℕ) (a : Exp) → is_monomial_in n a ≡ true → IsMonomialIn n a
+monomial_of n a h = record {
   unused = monomial_inside n a h;
   long = eqb-true (length a.e) 8 (and_left (length a.e == 8) (list_all (λ e. e == 0) (drop n a.e)) h);
 }
@@ -59,9 +60,9 @@ rows_shape c n rows e w =
     subst (λ i. All (IsRowShape (algebra_meaning c.algebra) i) rows) (sym e)
     (All-from_recursion (IsRowShape (algebra_meaning c.algebra) c.corank) rows (weaker (IsWellFormedRow c) (IsRowShape (algebra_meaning c.algebra) c.corank) (row_shape c) rows w.each))
 
-rows_eight : (c : Carried) (rows : List (MatherRow (Ext Frac))) → AllByRecursion (IsWellFormedRow c) rows → AllByRecursion (IsEight c.corank) (map (λ row. row.monomial) rows)
-rows_eight c [] w = tt
-rows_eight c (row ∷ rows) w = (monomial_eight c.corank row.monomial (and_left (is_monomial_in c.corank row.monomial) (nat_le (sum row.monomial.e) 17) w.0.monomial), rows_eight c rows w.1)
+rows_monomials : (c : Carried) (rows : List (MatherRow (Ext Frac))) → AllByRecursion (IsWellFormedRow c) rows → AllByRecursion (IsMonomialIn c.corank) (map (λ row. row.monomial) rows)
+rows_monomials c [] w = tt
+rows_monomials c (row ∷ rows) w = (monomial_of c.corank row.monomial (and_left (is_monomial_in c.corank row.monomial) (nat_le (sum row.monomial.e) 17) w.0.monomial), rows_monomials c rows w.1)
 
 -- ---- rows
 
@@ -71,10 +72,6 @@ unfolding jet_at terms_in
 jets_at n a [] i = refl
 jets_at n a (f ∷ jets) zero = refl
 jets_at n a (f ∷ jets) (suc i) = jets_at n a jets i
-
-pub terms_are : (n : ℕ) (a : Algebra) (terms : List (Exp × Ext Frac)) → poly_of n (value_in a) terms ≡ terms_in n a terms
-unfolding terms_in
-terms_are n a terms = refl
 
 module _ (c : Carried) (g : JetTerms (Ext Frac)) (variables : g.n ≡ c.corank) (same : poly_of c.corank (value_in c.algebra) g.terms ≡ residual_of c) where
   -- the row is one of Mather's test for the jet in n variables
@@ -100,11 +97,11 @@ module _ (c : Carried) (g : JetTerms (Ext Frac)) (variables : g.n ≡ c.corank) 
       monomials = map (λ (row : MatherRow (Ext Frac)). row.monomial) rows
 
       exponents_are : (n : ℕ) → map (λ (a : Exp). exponents n a.e) (map (λ (row : MatherRow (Ext Frac)). row.monomial) rows) ≡ map (λ (row : MatherRow (Ext Frac)). exponents n row.monomial.e) rows
-      exponents_are n = map-map (λ (a : Exp). exponents n a.e) (λ (row : MatherRow (Ext Frac)). row.monomial) rows
+      exponents_are n = exponents_of n rows (map (λ (row : MatherRow (Ext Frac)). row.monomial) rows) refl
 
       to : AreRowsAt (algebra_meaning c.algebra) g c.order rows → AreMatherRows c rows
       to are = record {
-        monomials = of_degree c.corank (c.order + 1) (map (λ (row : MatherRow (Ext Frac)). row.monomial) rows) (rows_eight c rows wr.each)
+        monomials = of_degree c.corank (c.order + 1) (map (λ (row : MatherRow (Ext Frac)). row.monomial) rows) (rows_monomials c rows wr.each)
             (exponents_are c.corank ∙ subst (λ n. map (λ (row : MatherRow (Ext Frac)). exponents n row.monomial.e) rows ≡ Rattle.mono_exp.specs.Exponents.monomials_of n (c.order + 1)) variables are.monomials);
         each = weaker (λ row. RowIn row g.n) (IsRowOf c) row_is rows are.each;
       }
@@ -136,14 +133,14 @@ module _ (c : Carried) (g : JetTerms (Ext Frac)) (variables : g.n ≡ c.corank) 
   -- a functional that excludes the test for the jet excludes it for the residual part
   pub fails_is : (values : List (Exp × Ext Frac)) (at : Exp) → FailsIn values at g.n → Fails values at
   fails_is values at h =
-      subst (λ v. MatherFails (exps c.corank) (ops c.algebra) c.order (residual_of c) v (exp_of c.corank at)) (terms_are c.corank c.algebra values)
+      subst (λ v. MatherFails (exps c.corank) (ops c.algebra) c.order (residual_of c) v (exp_of c.corank at)) (sym (terms_in-poly_of c.corank c.algebra values))
       (subst (λ p. MatherFails (exps c.corank) (ops c.algebra) c.order p (poly_of c.corank (value_in c.algebra) values) (exp_of c.corank at)) same (subst (FailsIn values at) variables h))
 
   pub is_fails : (values : List (Exp × Ext Frac)) (at : Exp) → Fails values at → FailsIn values at g.n
   is_fails values at h =
       subst (FailsIn values at) (sym variables)
       (subst (λ p. MatherFails (exps c.corank) (ops c.algebra) c.order p (poly_of c.corank (value_in c.algebra) values) (exp_of c.corank at)) (sym same)
-      (subst (λ v. MatherFails (exps c.corank) (ops c.algebra) c.order (residual_of c) v (exp_of c.corank at)) (sym (terms_are c.corank c.algebra values)) h))
+      (subst (λ v. MatherFails (exps c.corank) (ops c.algebra) c.order (residual_of c) v (exp_of c.corank at)) (terms_in-poly_of c.corank c.algebra values) h))
 
   abbrev ValuesHighIn : List (Exp × Ext Frac) → Exp → ℕ → Type 0
   ValuesHighIn values at n = AreValuesHigh n (scalars c.algebra) c.order (poly_of n (value_in c.algebra) g.terms) (poly_of n (value_in c.algebra) values) (exp_of n at)
@@ -151,7 +148,7 @@ module _ (c : Carried) (g : JetTerms (Ext Frac)) (variables : g.n ≡ c.corank) 
   pub values_are_high : (values : List (Exp × Ext Frac)) (at : Exp) → ValuesHighIn values at g.n
       → AreValuesHigh c.corank (scalars c.algebra) c.order (residual_of c) (terms_in c.corank c.algebra values) (monomial_in c.corank at.e)
   values_are_high values at high =
-      subst (λ v. AreValuesHigh c.corank (scalars c.algebra) c.order (residual_of c) v (exp_of c.corank at)) (terms_are c.corank c.algebra values)
+      subst (λ v. AreValuesHigh c.corank (scalars c.algebra) c.order (residual_of c) v (exp_of c.corank at)) (sym (terms_in-poly_of c.corank c.algebra values))
       (subst (λ p. AreValuesHigh c.corank (scalars c.algebra) c.order p (poly_of c.corank (value_in c.algebra) values) (exp_of c.corank at)) same (subst (ValuesHighIn values at) variables high))
 
 -- what well-formed values of a functional are
@@ -179,17 +176,10 @@ low_degrees d [] h = tt
 low_degrees d (t ∷ ts) h =
     (leb-true (sum t.0.e) d (and_left (nat_le (sum t.0.e) d) (list_all (λ m. nat_le (sum m.e) d) (monomials_in ts)) h), low_degrees d ts (and_right (nat_le (sum t.0.e) d) (list_all (λ m. nat_le (sum m.e) d) (monomials_in ts)) h))
 
-above : (e d : ℕ) → d < e → nat_le e d ≡ false
-above e d h = step (nat_le e d) refl
-  where
-    step : (b : Bool) → nat_le e d ≡ b → b ≡ false
-    step true q = let low = leb-true e d q in absurd (omega arith)
-    step false q = refl
-
 -- a monomial that is not low
 pub low_fails : (d : ℕ) (values : List (Exp × Ext Frac)) (i : ℕ) (x : Exp × Ext Frac) → i < length values → d < sum (get_or values i x).0.e → list_all (λ m. nat_le (sum m.e) d) (monomials_in values) ≡ false
 low_fails d [] i x h high = absurd (omega arith)
-low_fails d (t ∷ ts) zero x h high = ap (λ b. b && list_all (λ m. nat_le (sum m.e) d) (monomials_in ts)) (above (sum t.0.e) d high)
+low_fails d (t ∷ ts) zero x h high = ap (λ b. b && list_all (λ m. nat_le (sum m.e) d) (monomials_in ts)) (lt-leb (sum t.0.e) d high)
 low_fails d (t ∷ ts) (suc i) x h high = step (nat_le (sum t.0.e) d) (low_fails d ts i x (omega arith) high)
   where
     step : (b : Bool) → list_all (λ m. nat_le (sum m.e) d) (monomials_in ts) ≡ false → (b && list_all (λ m. nat_le (sum m.e) d) (monomials_in ts)) ≡ false

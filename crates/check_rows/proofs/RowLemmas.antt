@@ -1,7 +1,7 @@
 -- The rows of Mather's test from the answers about their parts.
 use Rattle.std.proofs.Common.{◌≡◌, ℕ, ◌+◌, ◌<◌, ◌≤◌, inl, inr, Bool, List, [], ◌∷◌, ◌++◌, map, length, get_or, take, sum, IsTrue, ◌↔◌, sym, ap, ap₂, subst, ◌∙◌, arith}
 use Rattle.std.specs.List.{All, AllByRecursion}
-use Rattle.std.proofs.lemmas.List.{get_or-map, length-map, map-append, take_more}
+use Rattle.std.proofs.lemmas.List.{get_or-map, length-map}
 use Rattle.ring_theory.specs.Scalars.{Meaning, ScalarLaws}
 use Rattle.poly_law.specs.ExpList.{exps}
 use Rattle.poly_law.specs.Poly.{cut, combination, times, poly_ops, derivative, IsMatherRow}
@@ -23,20 +23,9 @@ use Rattle.check_rows.specs.Products.{sum_of_products, AreProductsHigh, IsCombin
 use Rattle.check_rows.specs.Rows.{AreRowsAt, IsPrintedRow, IsSomeRowHigh, AreRowsHigh, row_at}
 use Rattle.check_rows.proofs.JetLemmas
 
--- ---- two lists with equal keys
-
-module _ {X Y K : Type 0} (p : X → K) (q : Y → K) where
-  pub key_lengths : (xs : List X) (ys : List Y) → map p xs ≡ map q ys → length xs ≡ length ys
-  key_lengths xs ys e = sym (length-map xs p) ∙ ap length e ∙ length-map ys q
-
-  pub key_at : (xs : List X) (ys : List Y) (i : ℕ) (x : X) (y : Y) → i < length xs → i < length ys → x ≡ get_or xs i x → y ≡ get_or ys i y → map p xs ≡ map q ys → p x ≡ q y
-  key_at xs ys i x y hx hy ex ey e = ap p ex ∙ sym (get_or-map p xs i x (p x) hx) ∙ ap (λ z. get_or z i (p x)) e ∙ get_or-map q ys i y (p x) hy ∙ sym (ap q ey)
-
-  pub keys_step : (xs : List X) (ys : List Y) (i : ℕ) (x : X) (y : Y) → i < length xs → i < length ys → x ≡ get_or xs i x → y ≡ get_or ys i y → p x ≡ q y → map p (take i xs) ≡ map q (take i ys) → map p (take (i + 1) xs) ≡ map q (take (i + 1) ys)
-  keys_step xs ys i x y hx hy ex ey e so_far =
-      ap (map p) (take_more xs i x hx ∙ ap (λ z. take i xs ++ z ∷ []) (sym ex)) ∙ map-append p (take i xs) (x ∷ [])
-      ∙ ap₂ (λ a b. a ++ b ∷ []) so_far e
-      ∙ sym (ap (map q) (take_more ys i y hy ∙ ap (λ z. take i ys ++ z ∷ []) (sym ey)) ∙ map-append q (take i ys) (y ∷ []))
+-- the exponents of the monomials of rows
+pub exponents_of : {E : Type 0} (n : ℕ) (rows : List (MatherRow E)) (ms : List Exp) → ms ≡ map (λ row. row.monomial) rows → map (λ a. exponents n a.e) ms ≡ map (λ row. exponents n row.monomial.e) rows
+exponents_of {E} n rows ms e = ap (map (λ (a : Exp). exponents n a.e)) e ∙ map-map (λ (a : Exp). exponents n a.e) (λ (row : MatherRow E). row.monomial) rows
 
 module _ {E V : Type 0} (m : Meaning E V) (laws : ScalarLaws m.scalars) where
   -- ---- one row

@@ -8,7 +8,8 @@ ghost use Rattle.jet_law.specs.Terms.{exp_of, poly_of};
 ghost use Rattle.jet_poly.specs.Jets.{IsJet, polynomial_of};
 
 use jet_poly::{Jet, JetOf};
-use mono_exp::{Exp, degree, rank};
+use mono_exp::{Exp, degree};
+use report_jet::are_same_terms;
 use ring_law::{Fault, Ring};
 use std::alloc::Global;
 
@@ -23,23 +24,7 @@ pub fn is_same_jet<R: Ring>(ring: &R, f: &JetOf<R>, g: &JetOf<R>) -> bool
     requires right_order_at_most_17 { g.now.order ≤ 17 }
     ensures { IsTrue result ↔ (let m = R.meaning ring.now in SameIn f.now.n m.scalars.ops (polynomial_of m f.now) (poly_of f.now.n m.value g.now.terms)) }
 {
-    let n = f.n();
-    let left = f.terms();
-    let right = g.terms();
-    if left.len() != right.len() {
-        return false;
-    }
-    for i in 0..left.len() {
-        let s = left[i];
-        let t = right[i];
-        if rank(n, s.0) != rank(n, t.0) {
-            return false;
-        }
-        if !ring.eq(s.1, t.1) {
-            return false;
-        }
-    }
-    true
+    are_same_terms(ring, f.n(), f.terms(), g.terms())
 }
 
 /// True where a jet has no term of degree below 2.

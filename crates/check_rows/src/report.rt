@@ -10,11 +10,11 @@ ghost use Rattle.check_rows.specs.ItemHeights.{IsMatherHigh, IsFunctionalHigh};
 
 use crate::functional::is_failure;
 use crate::rows::are_rows;
-use crate::split::is_split;
 use cert_text::{Carried, Limit, Unresolved};
 use determinacy::MatherRow;
 use ext_algebra::{AlgebraRing, Ext};
 use mono_exp::{Exp, degree};
+use normal_forms::is_split;
 use report_jet::residual_jet;
 use ring_law::{Fault, Frac};
 use std::alloc::Global;

@@ -4,7 +4,7 @@ ghost use Rattle.std.specs.Prelude.{◌≡◌, ℕ, ◌+◌, ◌<◌, ◌≤◌,
 ghost use Rattle.std.specs.List.{AllByRecursion};
 ghost use Rattle.ring_law.specs.Refusals.{OnFault};
 ghost use Rattle.poly_law.specs.Polynomials.{StartsAtIn};
-ghost use Rattle.mono_exp.specs.Exponents.{IsIn, exponents};
+ghost use Rattle.mono_exp.specs.Exponents.{IsIn};
 ghost use Rattle.jet_poly.specs.Jets.{IsJet, polynomial_of};
 ghost use Rattle.jacobian_row.specs.Rows.{IsJetIn, polynomial_at};
 ghost use Rattle.check_rows.specs.Lists.{AreTermsIn, list_at};
@@ -14,13 +14,14 @@ ghost use Rattle.check_rows.specs.Rows.{IsRowShape, AreRowsAt, IsPrintedRow, IsS
 use crate::combine::combination;
 use crate::derive::partial_lists;
 use crate::jets::{is_same_jet, monomial_jet, starts_at_two};
+use crate::monomials::have_same_exponents;
 use determinacy::MatherRow;
 use jacobian_row::monomials;
 use jet_poly::JetOf;
-use mono_exp::{Exp, rank};
+use mono_exp::Exp;
 use ring_law::{Fault, Ring};
 use sqlite_items::Items;
-use std::alloc::Global;
+use std::alloc::{AllocError, Global};
 
 /// True where no jet has a term of degree below 2.
 fn all_start_at_two<R: Ring>(ring: &R, n: u8, jets: &[JetOf<R>]) -> bool
@@ -92,24 +93,11 @@ fn each_is_row<R: Ring>(
     Ok(true)
 }
 
-/// True where the rows stand for these monomials, in order.
-fn stand_for<E>(n: u8, monomials: &[Exp], rows: &[MatherRow<E>]) -> bool
-    requires at_most_8_variables { n ≤ 8 }
-    requires unused { All (λ a. IsIn n a.e) monomials.now }
-    requires degrees { All (λ a. sum a.e ≤ 17) monomials.now }
-    requires rows_unused { All (λ row. IsIn n row.monomial.e) rows.now }
-    requires rows_degrees { All (λ row. sum row.monomial.e ≤ 17) rows.now }
-    ensures { IsTrue result ↔ (map (λ row. exponents n row.monomial.e) rows.now ≡ map (λ a. exponents n a.e) monomials.now) }
+/// The monomials of rows.
+fn monomials_of<E>(alloc: Global, rows: &[MatherRow<E>]) -> Result<Vec<Exp>, AllocError>
+    ensures { IfOk result (λ v. v.items ≡ map (λ row. row.monomial) rows.now) }
 {
-    if rows.len() != monomials.len() {
-        return false;
-    }
-    for i in 0..rows.len() {
-        if rank(n, rows[i].monomial) != rank(n, monomials[i]) {
-            return false;
-        }
-    }
-    true
+    rows.iter().map(|row| row.monomial).collect(alloc)
 }
 
 /// True where the rows are those of Mather's test at k for the jet g: one for each monomial of degree k + 1, in the monomial order, which is, modulo degree
@@ -135,7 +123,8 @@ pub fn are_rows<R: Ring>(
 {
     let n = g.n();
     let monomials = monomials(alloc, n, k + 1)?;
-    if !stand_for(n, &monomials, rows) {
+    let of_rows = monomials_of(alloc, rows)?;
+    if !have_same_exponents(n, &of_rows, &monomials) {
         return Ok(false);
     }
     let partials = partial_lists(alloc, ring, g)?;

@@ -56,9 +56,10 @@ use Rattle.cert_text.specs.WellFormed.{is_zero_element, is_term_of, is_residual_
 use Rattle.jet_law.specs.Canonical.{monomial_in}
 use Rattle.report_law.specs.Polynomials.{terms_in, jet_at, value_at, zero_element}
 use Rattle.report_law.specs.Items.{residual_of, row_of, basis_of, values_of_row, multipliers_of_row, IsRowOf, AreMatherRows, IsMilnorTable}
+use Rattle.report_law.proofs.Listing.{same_monomials, same_monomials_to, listed_as}
+use Rattle.report_law.proofs.Splitting.{and_both}
 use Rattle.one_variable_law.specs.Reports.{carried_of}
-use Rattle.one_variable_law.proofs.Bools.{and_both}
-use Rattle.one_variable_law.proofs.Listing.{same_monomials, same_monomials_to, none_without_variables, one_at_most, few_below, listed_as, monomial_valid}
+use Rattle.one_variable_law.proofs.Listing.{none_without_variables, one_at_most, few_below, monomial_valid}
 
 -- the elements of the algebra Q and their numbers
 abbrev pub meaning : Meaning (Ext Frac) Rational
@@ -370,7 +371,7 @@ module _ (k : ℕ) (within : k ≤ 16) (g : JetTerms (Ext Frac)) (few : g.n ≤ 
 
         pub table_is : IsMilnorTable R
         table_is = record {
-          monomials = listed_as g.n (map (λ row. row.monomial) q.table) (monomials_below g.n (k + 1)) (all_in low q is) (list low q is q.table ∙ is.monomials) ∙ ap (map in_eight) (sym (same_monomials_to g.n k));
+          monomials = listed_as g.n (map (λ row. row.monomial) q.table) (monomials_below g.n (k + 1)) (all_in low q is) (list low q is q.table ∙ is.monomials) ∙ ap (map in_eight) (sym (same_monomials_to g.n k ∙ ap (monomials_below g.n) (let e : suc k ≡ k + 1 = omega arith in e)));
           quotient =
               subst (λ f. IsQuotientTable (exps g.n) (ops algebras.Rational) k f (length q.basis) (basis_of R) (values_of_row R) (multipliers_of_row R)) (sym residual)
               (subst (λ b. IsQuotientTable (exps g.n) (ops algebras.Rational) k (polynomial_of meaning g) (length q.basis) b (values_of_row R) (multipliers_of_row R)) basis_same

@@ -1,4 +1,3 @@
-pub mod Bools
 pub mod Listing
 pub mod Powers
 pub mod Leading

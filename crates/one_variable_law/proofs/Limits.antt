@@ -12,11 +12,11 @@ use Rattle.poly_text.specs.declared.name.Name.{Name}
 use Rattle.jet_law.specs.Canonical.{monomial_in}
 use Rattle.report_law.specs.Polynomials.{terms_in, residual_part}
 use Rattle.report_law.specs.Items.{IsLimitFunctional}
+use Rattle.report_law.proofs.Splitting.{and_both}
 use Rattle.one_variable_law.specs.Reports.{power, limit_of}
 use Rattle.one_variable_law.proofs.Powers.{x_to, degree_is, zero_on_zero, one_on_itself}
 use Rattle.one_variable_law.proofs.Leading.{rational_term}
 use Rattle.one_variable_law.proofs.Carrying.{report_power}
-use Rattle.one_variable_law.proofs.Bools.{and_both}
 
 pub degree_of_power : (e : ℕ) → sum (power e).e ≡ e
 degree_of_power e = omega arith

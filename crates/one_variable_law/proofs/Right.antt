@@ -42,8 +42,8 @@ use Rattle.one_variable_law.specs.Reports as reports
 use Rattle.one_variable_law.specs.Reports.{single, zero_jet, limit_of, corank_of}
 use Rattle.one_variable_law.specs.Plan.{IsOneVariable, germ_coefficient, IsFirstTerm, IsFormHigh, IsPlannedAnswer}
 use Rattle.one_variable_law.specs.Answers.{named_of, IsNamedOf, IsNamedAnswer, IsAnswerByTerms, IsAnswerByNames, IsAnswerToGerm, HasNameableFirst, IsReadGerm, AreRowsOf, IsQuotientOf, first_exponent}
-use Rattle.one_variable_law.proofs.Bools.{and_both}
-use Rattle.report_law.proofs.Names.{line_names, name_text-name_of, name_valid}
+use Rattle.report_law.proofs.Names.{line_names, linear_is, name_text-name_of, name_valid}
+use Rattle.report_law.proofs.Splitting.{and_both}
 use Rattle.one_variable_law.proofs.Powers.{x_to, variable_is, is_power, coefficient_first-other}
 use Rattle.one_variable_law.proofs.Leading.{coefficient_of, HasFirst, has_first}
 use Rattle.one_variable_law.proofs.Carrying.{IsGermBy, germ_by, shape, invertible, form_carried, zero_carried, first_term}
@@ -85,30 +85,8 @@ range_good bytes limit h =
     let high : IsHighLine bytes limit = record { read = record { line = h.line; spells = h.spells; small = h.small }; is_high = h.is_high } in
     record { well_formed = tt; right = high; planned = high }
 
--- a name of a line
-name_at : (names : List Word) (i : ℕ) → list_all is_name names ≡ true → i < length names → is_name (get_or names i []) ≡ true
-name_at [] i all h = absurd (omega arith)
-name_at (x ∷ xs) zero all h = and_left (is_name x) (list_all is_name xs) all
-name_at (x ∷ xs) (suc i) all h = name_at xs i (and_right (is_name x) (list_all is_name xs) all) (omega arith)
-
 pub linear_good : (bytes : List ℕ) (limit : ℕ) (variable : Name) → IsLinearIn bytes variable → IsGood bytes limit (answers.NotCritical variable)
-linear_good bytes limit variable h =
-    let line = h.linear.line in
-    let within : h.place < length h.names = subst (λ ns. h.place < length ns) h.linear.names_are h.linear.first.within in
-    let word : Word = get_or h.names h.place [] in
-    let is_word : is_name word ≡ true = name_at h.names h.place (subst (λ ns. list_all is_name ns ≡ true) h.linear.names_are (line_names line h.linear.spells.is_line)) within in
-    record {
-      well_formed = ap is_valid_name h.variable_is ∙ name_valid word is_word;
-      right = record {
-        line = line;
-        spells = h.linear.spells;
-        small = h.linear.small;
-        place = h.place;
-        first = h.linear.first;
-        variable_is = ap name_text h.variable_is ∙ name_text-name_of word is_word ∙ sym (ap (λ ns. get_or ns h.place []) h.linear.names_are);
-      };
-      planned = tt;
-    }
+linear_good bytes limit variable h = let is = linear_is bytes variable h in record { well_formed = is.1; right = is.0; planned = tt }
 
 -- ---- the germ has no constant and no linear term
 

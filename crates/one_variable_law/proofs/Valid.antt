@@ -15,7 +15,7 @@ use Rattle.poly_text.specs.declared.name.Name.{Name}
 use Rattle.cert_text.specs.WellFormed.{is_valid_name, is_zero_element, is_monomial_in, is_term_of, IsJetOf, IsWellFormedCarried, IsWellFormedLimit}
 use Rattle.one_variable_law.specs.Reports as reports
 use Rattle.one_variable_law.specs.Reports.{whole, power, single, zero_jet, carried_of, limit_of}
-use Rattle.one_variable_law.proofs.Bools.{and_both}
+use Rattle.report_law.proofs.Splitting.{and_both}
 use Rattle.one_variable_law.proofs.Limits.{low_power}
 
 -- a valid fraction passes the test

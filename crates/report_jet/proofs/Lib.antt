@@ -1,2 +1,4 @@
 pub mod ReportJets
 pub mod LiftedJets
+pub mod SameTerms
+pub mod OneJet

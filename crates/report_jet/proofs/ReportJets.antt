@@ -1,5 +1,5 @@
 -- The jets of a well-formed report over the ring of its algebra.
-use Rattle.std.proofs.Common.{◌≡◌, ◌≢◌, ℕ, ◌+◌, ◌≤◌, Bool, true, false, ◌&&◌, IsTrue, cond, leb, eqb, List, [], ◌∷◌, length, sum, refl, sym, ap, ◌∙◌, subst, true≢false, arith, pos, zero-lt-suc}
+use Rattle.std.proofs.Common.{◌≡◌, ◌≢◌, ℕ, zero, suc, ◌+◌, ◌≤◌, Bool, true, false, ◌&&◌, IsTrue, cond, leb, eqb, List, [], ◌∷◌, map, length, get_or, sum, refl, sym, ap, ◌∙◌, subst, true≢false, arith, pos, zero-lt-suc}
 use Rattle.std.specs.Prelude.{not, nat_le, drop, ◌==◌}
 use Rattle.std.specs.List.{AllByRecursion, All, list_all, filter}
 use Rattle.std.proofs.lemmas.Bool.{leb-true}
@@ -24,11 +24,12 @@ use Rattle.mono_exp.specs.Exponents.{IsIn}
 use Rattle.jet_law.specs.Terms.{poly_of}
 use Rattle.jet_poly.specs.JetTerms.{JetTerms}
 use Rattle.jet_poly.specs.Jets.{IsJet}
+use Rattle.jet_poly.proofs.GatheredLemmas.{weaker}
 use Rattle.jet_poly.proofs.KeptTerms.{kept-all}
 use Rattle.normal_forms.specs.Monomials.{is_residual, residual_terms}
 use Rattle.cert_text.specs.declared.report.Carried.{Carried}
 use Rattle.cert_text.specs.WellFormed.{IsWellFormedCarried, IsJetOf, is_term_of, is_monomial_in, is_zero_element}
-use Rattle.report_law.specs.Polynomials.{PolynomialOver, terms_in, residual_part}
+use Rattle.report_law.specs.Polynomials.{PolynomialOver, terms_in, residual_part, value_at, zero_element}
 use Rattle.report_law.specs.Items.{residual_of}
 use Rattle.report_law.proofs.Splitting.{zero_past}
 
@@ -49,6 +50,19 @@ elements_valid a es t = All-from_recursion (λ e. IsElement a e) es (each es t)
     each : (es : List (Ext Frac)) → list_all (is_element a) es ≡ true → AllByRecursion (λ e. IsElement a e) es
     each [] t = tt
     each (e ∷ es) t = (element_valid a e (and_left (is_element a e) (list_all (is_element a) es) t), each es (and_right (is_element a e) (list_all (is_element a) es) t))
+
+zero_is : (a : Algebra) → (ops a).zero ≡ value_in a zero_element
+unfolding value_in scalars quadratic_scalars cubic_scalars
+zero_is algebras.Rational = refl
+zero_is (algebras.Quadratic m1 m0) = refl
+zero_is (algebras.Cubic m2 m1 m0) = refl
+
+-- the values of a list of elements by number, and 0 past the last one
+pub get_or-values : (a : Algebra) (es : List (Ext Frac)) (i : ℕ) → get_or (map (value_in a) es) i (ops a).zero ≡ value_at a es i
+unfolding value_at
+get_or-values a [] i = zero_is a
+get_or-values a (e ∷ es) zero = refl
+get_or-values a (e ∷ es) (suc i) = get_or-values a es i
 
 -- a valid fraction with the value 0 passes the test for zero
 pub is_zero_frac-zero : (f : Frac) → IsFrac f → frac_value f ≡ rational (pos 0) 1 → is_zero_frac f ≡ true
@@ -107,12 +121,8 @@ terms_over n order a (t ∷ ts) h = (
   terms_over n order a ts (and_right (is_term_of n order a t) (list_all (is_term_of n order a) ts) h),
 )
 
-each_of : {X : Type 0} (P Q : X → Type 0) → ((x : X) → P x → Q x) → (xs : List X) → AllByRecursion P xs → AllByRecursion Q xs
-each_of P Q f [] a = tt
-each_of P Q f (x ∷ xs) a = (f x a.0, each_of P Q f xs a.1)
-
 all_of : {X : Type 0} (P Q : X → Type 0) → ((x : X) → P x → Q x) → (xs : List X) → AllByRecursion P xs → All Q xs
-all_of P Q f xs a = All-from_recursion Q xs (each_of P Q f xs a)
+all_of P Q f xs a = All-from_recursion Q xs (weaker P Q f xs a)
 
 -- terms that pass the test are those of a jet over the algebra
 pub jet_of_terms : (n order : ℕ) (a : Algebra) (terms : List (Exp × Ext Frac)) → list_all (is_term_of n order a) terms ≡ true → IsJet (algebra_meaning a) (record { n = n; order = order; terms = terms })

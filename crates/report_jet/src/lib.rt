@@ -3,6 +3,8 @@
 
 mod lifted;
 mod residual;
+mod terms;
 
 pub use lifted::{lifted_element, lifted_jet};
 pub use residual::residual_jet;
+pub use terms::{are_same_terms, is_same_monomial};

@@ -2,7 +2,7 @@ use Rattle.std.proofs.Common.{◌∙◌}
 use Rattle.poly_law.specs.Polynomials.{substitute}
 use Rattle.jet_law.specs.Terms.{poly_of}
 use Rattle.jet_subst.specs.Parts.{variables_of, part_of}
-use Rattle.check_change.proofs.OneJet.{carried_test}
+use Rattle.check_change.proofs.CarriedTest.{carried_test}
 use Rattle.check_change.proofs.carry.is_carried_jet.Goals as goal
 
 pub returns-clause-carried : goal.returns-clause-carried

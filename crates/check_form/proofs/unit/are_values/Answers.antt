@@ -1,5 +1,5 @@
 use Rattle.std.proofs.Common.{◌≡◌, ◌<◌, IsTrue, length, arith}
-use Rattle.check_form.proofs.Pairs.{differ_at}
+use Rattle.report_jet.proofs.SameTerms.{key_at}
 use Rattle.check_form.proofs.unit.are_values.Goals as goal
 
 pub returns-then-not-eq : goal.returns-then-not-eq
@@ -10,4 +10,4 @@ returns-then-not-eq g c =
     let t : IsTrue c.eq.result = c.eq.ensures.1 (cc) in
     cc
     in
-    (λ t. cc, λ e. absurd (differ_at (λ p. m.value p.0) m.value c.args.pairs.now c.args.values.now c.loop-i.i c.index-pairs-i.result c.index-values-i.result c.loop-i-test.true within c.index-pairs-i.is c.index-values-i.is apart e))
+    (λ t. cc, λ e. absurd (apart (key_at (λ p. m.value p.0) m.value c.args.pairs.now c.args.values.now c.loop-i.i c.index-pairs-i.result c.index-values-i.result c.loop-i-test.true within c.index-pairs-i.is c.index-values-i.is e)))

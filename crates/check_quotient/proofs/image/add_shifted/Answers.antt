@@ -5,7 +5,7 @@ use Rattle.jet_law.specs.Terms.{exp_of, poly_of}
 use Rattle.jet_law.proofs.TermLemmas.{exp_of-product, in-product, poly_of-push}
 use Rattle.jet_poly.proofs.Steps.{low-product, high-product}
 use Rattle.jacobian_row.proofs.RowLemmas.{has_product}
-use Rattle.check_quotient.proofs.Images.{one_times}
+use Rattle.check_rows.proofs.FunctionalLemmas.{one_mul}
 use Rattle.check_rows.specs.Lists.{AreTermsIn}
 use Rattle.check_rows.proofs.ListLemmas.{terms_push}
 use Rattle.check_quotient.proofs.image.add_shifted.Goals as goal
@@ -37,5 +37,5 @@ returns-clause-product g c =
     let term : ExpList c.args.n × g.R.Ring.Value c.args.ring.now = (plus (exps c.args.n) (exp_of c.args.n c.args.a) (exp_of c.args.n c.args.t.0), m.scalars.ops.mul (m.scalars.ops.one) (m.value c.args.t.1)) in
     ap (poly_of c.args.n m.value) c.in_ok-push.ensures.items
     ∙ poly_of-push c.args.n m.value c.args.all.now.items (c.unwrap-monomial.result, c.args.t.1)
-    ∙ ap₂ (λ y z. poly_of c.args.n m.value c.args.all.now.items ++ (y, z) ∷ []) (exp_of-product c.args.n c.args.a c.args.t.0 c.unwrap-monomial.result (rw c.unwrap-monomial.ensures at c.times.ensures.product)) (sym (one_times m.scalars.ops (g.met.R.Ring.laws c.args.ring.now c.requires.ring).numbers.ring (m.value c.args.t.1)))
+    ∙ ap₂ (λ y z. poly_of c.args.n m.value c.args.all.now.items ++ (y, z) ∷ []) (exp_of-product c.args.n c.args.a c.args.t.0 c.unwrap-monomial.result (rw c.unwrap-monomial.ensures at c.times.ensures.product)) (sym (one_mul m.scalars.ops (g.met.R.Ring.laws c.args.ring.now c.requires.ring).numbers.ring (m.value c.args.t.1)))
     ∙ sym (ap (λ t. poly_of c.args.n m.value c.args.all.now.items ++ cond t (term ∷ []) []) (low-product c.args.n c.args.k c.args.a c.args.t.0 c.requires.unused c.requires.t_variables low))

@@ -1,8 +1,8 @@
 use Rattle.std.proofs.Common.{◌≤◌, ◌^◌, ap, subst, ◌∙◌, arith}
 use Rattle.ring_law.proofs.Exits.{faulted}
 use Rattle.jet_poly.proofs.Output.{all-push}
+use Rattle.check_rows.proofs.ListLemmas.{mapped_step, mapped_high}
 use Rattle.check_quotient.specs.Tables.{value_in}
-use Rattle.check_quotient.proofs.Images.{mapped_step, mapped_high}
 use Rattle.check_quotient.proofs.image.products.Goals as goal
 
 pub returns-in_err-x-clause-range : goal.returns-in_err-x-clause-range

@@ -5,12 +5,12 @@ use Rattle.poly_law.specs.Exps.{lower}
 use Rattle.poly_law.specs.ExpList.{exps}
 use Rattle.poly_law.specs.Polynomials.{derivative_in}
 use Rattle.mono_exp.specs.Exponents.{IsIn}
-use Rattle.jet_law.specs.Terms.{poly_of}
+use Rattle.jet_law.specs.Terms.{exp_of, poly_of}
 use Rattle.jet_law.proofs.TermLemmas.{at-exp_of}
 use Rattle.jet_poly.specs.Jets.{whole}
 use Rattle.jet_poly.proofs.Derived.{derivative-high, in-lowered, whole-mul}
 use Rattle.check_rows.specs.Lists.{AreTermsIn}
-use Rattle.check_rows.proofs.ListLemmas.{terms_none, terms_push, changed_step}
+use Rattle.check_rows.proofs.ListLemmas.{terms_none, terms_push, mapped_step}
 use Rattle.check_rows.proofs.derive.partial_list.Goals as goal
 
 pub loop-t-init : goal.loop-t-init
@@ -42,8 +42,8 @@ loop-t-preserved g c =
     (record {
       valid = terms_push m n c.loop-t.list.items c.lowered.result c.in_ok-c.c c.loop-t.invariant.valid c.in_ok-c.ensures.elem
           (subst (IsIn c.args.n) (sym c.lowered.ensures.exponents) (in-lowered c.args.n c.args.i c.t-item.result.0.e (subst (λ z. IsIn c.args.n z.0.e) (sym e) (c.requires.variables i t h))));
-      so_far = changed_step m n (λ t. (lower (exps c.args.n) c.args.i t.0, multiple m.scalars.ops ((exps c.args.n).at t.0 c.args.i) t.1)) f i t c.loop-t.list.items c.lowered.result c.in_ok-c.c h e (c.lowered.ensures.lower c.args.n)
-          (value ∙ ap (λ z. multiple m.scalars.ops z (m.value c.t-item.result.1)) (sym (at-exp_of c.args.n c.t-item.result.0 c.args.i c.requires.variable))) c.loop-t.invariant.so_far;
+      so_far = mapped_step n m.value (λ u. (exp_of n u.0, m.value u.1)) (λ t. (lower (exps n) c.args.i t.0, multiple m.scalars.ops ((exps n).at t.0 c.args.i) t.1)) f i t c.loop-t.list.items (c.lowered.result, c.in_ok-c.c) h e
+          (λ j. (c.lowered.ensures.lower n j, (value ∙ ap (λ z. multiple m.scalars.ops z (m.value t.1)) (sym (at-exp_of n t.0 c.args.i c.requires.variable))) j)) c.loop-t.invariant.so_far;
     })
 
 pub returns-clause-list : goal.returns-clause-list

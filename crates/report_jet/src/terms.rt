@@ -1,15 +1,18 @@
-//! Whether two lists of terms are the same.
+//! Whether two monomials, or two lists of terms, are the same.
 
 ghost use Rattle.std.specs.Prelude.{◌≡◌, ◌≤◌, ◌↔◌, All, IsTrue};
+ghost use Rattle.poly_law.specs.Exps.{same};
+ghost use Rattle.poly_law.specs.ExpList.{exps};
 ghost use Rattle.jet_law.specs.Terms.{exp_of, poly_of};
 
 use mono_exp::Exp;
 use ring_law::Ring;
 
-/// Whether two monomials in n variables have the same exponents.
-fn is_same_monomial(n: u8, a: Exp, b: Exp) -> bool
+/// True where two monomials have the same exponents in the first n variables.
+pub fn is_same_monomial(n: u8, a: Exp, b: Exp) -> bool
     requires at_most_8_variables { n ≤ 8 }
-    ensures { IsTrue result ↔ (exp_of n a ≡ exp_of n b) }
+    ensures equal { IsTrue result ↔ (exp_of n a ≡ exp_of n b) }
+    ensures same { result ≡ same (exps n) (exp_of n a) (exp_of n b) }
 {
     for i in 0..usize::from(n) {
         if a.e[i] != b.e[i] {
@@ -19,7 +22,7 @@ fn is_same_monomial(n: u8, a: Exp, b: Exp) -> bool
     true
 }
 
-/// Whether two terms in n variables have the same exponents and the same coefficient.
+/// True where two terms have the same exponents in the first n variables and the same coefficient.
 fn is_same_term<R: Ring>(ring: &R, n: u8, t: (Exp, R::Elem), u: (Exp, R::Elem)) -> bool
     requires ring { R.is_ring ring.now }
     requires at_most_8_variables { n ≤ 8 }
@@ -33,7 +36,7 @@ fn is_same_term<R: Ring>(ring: &R, n: u8, t: (Exp, R::Elem), u: (Exp, R::Elem)) 
     ring.eq(t.1, u.1)
 }
 
-/// Whether two lists of terms in n variables are the same, term by term.
+/// True where two lists of terms in n variables are the same, term by term.
 pub fn are_same_terms<R: Ring>(ring: &R, n: u8, f: &[(Exp, R::Elem)], g: &[(Exp, R::Elem)]) -> bool
     requires ring { R.is_ring ring.now }
     requires at_most_8_variables { n ≤ 8 }
