@@ -11,6 +11,7 @@ use Rattle.ring_theory.specs.Scalars.{ScalarLaws}
 use Rattle.ring_theory.proofs.ValueSet.{values_are_set}
 use Rattle.ring_law.specs.declared.fraction.Frac.{Frac}
 use Rattle.ring_law.specs.Fraction.{frac_value}
+use Rattle.ext_theory.specs.ExtensionScalars.{quadratic_scalars, cubic_scalars}
 use Rattle.ext_algebra.specs.declared.algebra.Algebra.{Algebra}
 use Rattle.ext_algebra.specs.declared.algebra.Algebra.TheVariants as algebras
 use Rattle.ext_algebra.specs.declared.algebra.Ext.{Ext}

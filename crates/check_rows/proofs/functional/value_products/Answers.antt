@@ -12,7 +12,7 @@ returns-in_err-x-clause-range g c =
     let m = g.R.Ring.meaning c.args.ring.now in
     let n = c.args.n in
     let all = times_in n m.scalars.ops (term_in n m.scalars.ops (exp_of n c.args.a)) (poly_of n m.value c.args.f.now.terms) in
-    faulted _ c.from_residual.ensures.1 
+    faulted _ c.from_residual.ensures.1
     (λ high. mapped_high n m.value (λ u. m.scalars.product_height u.1 (coefficient (exps n) m.scalars.ops all u.0)) c.args.values.now c.loop-t.t-index c.t-item.result c.loop-t-test.true c.t-item.is high) c.in_err-x.ensures.range
 
 pub loop-t-preserved : goal.loop-t-preserved
