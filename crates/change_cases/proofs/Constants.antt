@@ -1,8 +1,7 @@
 -- Constant terms, and orders.
-use Rattle.std.proofs.Common.{◌≡◌, ℕ, zero, suc, ◌<◌, List, [], ◌∷◌, length, All, ap, sym, ◌∙◌, arith}
+use Rattle.std.proofs.Common.{◌≡◌, ℕ, ◌<◌, List, [], ◌∷◌, length, All, ap, sym, ◌∙◌, arith}
 use Rattle.ring_theory.specs.Ring.{RingOps}
-use Rattle.poly_law.specs.Exps.{degree}
-use Rattle.poly_law.specs.ExpList.{ExpList, exps}
+use Rattle.poly_law.specs.ExpList.{exps}
 use Rattle.poly_law.specs.Polynomials.{Polynomial, coefficient_in, StartsAtIn}
 use Rattle.poly_law.proofs.ExpLists.{exps_are}
 use Rattle.poly_law.proofs.ExpLaws

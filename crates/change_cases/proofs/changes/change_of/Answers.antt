@@ -1,4 +1,4 @@
-use Rattle.std.proofs.Common.{◌≡◌, ◌<◌, ◌≤◌, sym, subst, arith}
+use Rattle.std.proofs.Common.{◌<◌, ◌≤◌, sym, subst}
 use Rattle.poly_law.specs.Polynomials.{HaveNoConstant}
 use Rattle.jet_subst.specs.Parts.{part_of}
 use Rattle.change_cases.proofs.Constants.{order_is}
