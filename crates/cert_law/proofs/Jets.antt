@@ -7,7 +7,7 @@ use Rattle.std.proofs.lemmas.Bool.Decides.{Decides-int_eq}
 use Rattle.std.proofs.lemmas.List.{append-nil}
 use Rattle.std.proofs.lemmas.List.Concat.{flat_map-append}
 use Rattle.ring_law.specs.declared.fraction.Frac.{Frac}
-use Rattle.cert_law.specs.Fields.{Element}
+use Rattle.cert_law.specs.Fields.{Element, zero_fraction}
 use Rattle.mono_exp.specs.declared.exponent.Exp.{Exp}
 use Rattle.cert_law.specs.Fields.{Term}
 use Rattle.poly_text.specs.Numbers.{is_zero_fraction, without_plus, components_text, scaled_text, signed_text}
@@ -78,9 +78,6 @@ factors_is (star ∷ []) f = absurd f
 factors_is (star ∷ c ∷ r) f = (r, cc (f.0, f.1))
 
 -- ---- the coefficient and the factors of a lump
-
-abbrev pub zero_fraction : Frac
-zero_fraction = record { num = pos 0; den = pos 1 }
 
 abbrev pub Read : Type 0
 Read = Element × List ℕ

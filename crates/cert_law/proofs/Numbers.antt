@@ -36,7 +36,7 @@ number_one m n x y lm ln sx sy e =
 pub nonempty : (n : ℕ) → n < 10 ^ 64 → 0 < length (decimal n)
 nonempty n lt = (decimal_is_IsNumeral_wide n lt).0.0
 
-no_minus : (ds x y : List ℕ) → 0 < length ds → AllByRecursion IsDigit ds → ds ++ x ≡ 45 ∷ y → ⊥
+pub no_minus : (ds x y : List ℕ) → 0 < length ds → AllByRecursion IsDigit ds → ds ++ x ≡ 45 ∷ y → ⊥
 no_minus [] x y some all e = omega arith
 no_minus (d ∷ ds) x y some all e = let h = head d 45 (ds ++ x) y e in omega (arith, h.0, all.0.0)
 

@@ -24,8 +24,8 @@ use Rattle.cert_text.specs.declared.report.Unresolved as unresolved_type
 use Rattle.cert_text.specs.declared.word.Word.TheVariants as words
 use Rattle.cert_text.specs.Words.{word_text}
 use Rattle.cert_text.specs.Names.{family_text, pattern_text}
-use Rattle.cert_text.specs.Text.{line, word_line, unit_text, modulus_text, mather_text, mather_lines, table_text, functional_text, carried_text, front_text, evidence_text, named_text, limit_text, outside_text, unresolved_text}
-use Rattle.cert_text.specs.WellFormed.{IsWellFormedCarried, IsWellFormedRow, AreRows, AreMultipliers, IsJetOf, IsWellFormedTableRow, IsWellFormedNamed, IsWellFormedLimit, IsWellFormedUnresolved, is_residual_monomial, is_monomial_in, is_valid_modulus, has_small_numbers, is_zero_element}
+use Rattle.cert_text.specs.Text.{line, word_line, unit_text, modulus_text, mather_text, mather_lines, basis_inside, monomials_text, table_text, functional_text, carried_text, front_text, evidence_text, named_text, limit_text, outside_text, unresolved_text}
+use Rattle.cert_text.specs.WellFormed.{IsWellFormedCarried, IsRowOf, AreRows, AreJetsOf, IsJetOf, IsTableRowOf, IsWellFormedNamed, IsWellFormedLimit, IsWellFormedUnresolved, is_low_monomial, is_monomial_in, is_unit_pair, is_functional_value, is_valid_modulus, has_small_numbers, is_zero_element}
 use Rattle.cert_law.specs.Fields.{Element, Term, UnitPair, IsSmallElement, IsUnitLine, IsMonomial, IsReadableJet, AreJets, IsRow, IsTableLine, IsValue}
 use Rattle.cert_law.proofs.Cut.{head, all_of, same_front}
 use Rattle.cert_law.proofs.Numbers.{number_one, NoDigit}
@@ -38,35 +38,35 @@ use Rattle.cert_law.proofs.Carrying.{word_rest, number_line, block_one, readable
 
 -- ---- what well-formedness gives for the rows
 
-pub residual_monomial : (c : Carried) (m : Exp) → is_residual_monomial c m ≡ true → IsMonomial m
-residual_monomial c m e =
-    let h = both (is_monomial_in c.corank m) (leb (sum m.e) 17) e in
+pub low_monomial : (n : ℕ) (m : Exp) → is_low_monomial n m ≡ true → IsMonomial m
+low_monomial n m e =
+    let h = both (is_monomial_in n m) (leb (sum m.e) 17) e in
     let low = leb-true (sum m.e) 17 h.1 in
-    monomial_by c.corank m h.0 (omega (arith, low))
+    monomial_by n m h.0 (omega (arith, low))
 
-pub multipliers_by : (c : Carried) → c.order ≤ 16 → (fs : List (JetTerms Element)) → AreMultipliers c fs → AreJets c.corank c.corank c.order fs
-multipliers_by c le fs is = record { long = is.count; each = all_to (IsJetOf c.corank c.order c.algebra) (IsReadableJet c.corank c.order) (readable c.corank c.order c.algebra le) fs is.each }
+multipliers_by : (a : Algebra) (corank order : ℕ) → order ≤ 16 → (fs : List (JetTerms Element)) → AreJetsOf a corank order fs → AreJets corank corank order fs
+multipliers_by a corank order le fs is = record { long = is.count; each = all_to (IsJetOf corank order a) (IsReadableJet corank order) (readable corank order a le) fs is.each }
 
-pub row_by : (c : Carried) → c.order ≤ 16 → (row : MatherRow Element) → IsWellFormedRow c row → IsRow c.corank c.order row
-row_by c le row is = record { monomial = residual_monomial c row.monomial is.monomial; multipliers = multipliers_by c le row.multipliers is.multipliers }
+pub row_by : (a : Algebra) (corank order : ℕ) → order ≤ 16 → (row : MatherRow Element) → IsRowOf a corank order row → IsRow corank order row
+row_by a corank order le row is = record { monomial = low_monomial corank row.monomial is.monomial; multipliers = multipliers_by a corank order le row.multipliers is.multipliers }
 
-pub rows_by : (c : Carried) → c.order ≤ 16 → (rows : List (MatherRow Element)) → AreRows c rows → AllByRecursion (IsRow c.corank c.order) rows
-rows_by c le rows is = all_to (IsWellFormedRow c) (IsRow c.corank c.order) (row_by c le) rows is.each
+rows_by : (c : Carried) → c.order ≤ 16 → (rows : List (MatherRow Element)) → AreRows c rows → AllByRecursion (IsRow c.corank c.order) rows
+rows_by c le rows is = all_to (IsRowOf c.algebra c.corank c.order) (IsRow c.corank c.order) (row_by c.algebra c.corank c.order le) rows is.each
 
-pub table_row_by : (c : Carried) (size : ℕ) → c.order ≤ 16 → (row : TableRow Element) → IsWellFormedTableRow c size row → IsTableLine size c.corank c.order row
-table_row_by c size le row is = record {
-  monomial = residual_monomial c row.monomial is.monomial;
+pub table_row_by : (a : Algebra) (corank order size : ℕ) → order ≤ 16 → (row : TableRow Element) → IsTableRowOf a corank order size row → IsTableLine size corank order row
+table_row_by a corank order size le row is = record {
+  monomial = low_monomial corank row.monomial is.monomial;
   long = is.count;
-  values = all_from (is_element c.algebra) IsSmallElement (element_by c.algebra) row.values is.values;
-  multipliers = multipliers_by c le row.multipliers is.multipliers;
+  values = all_from (is_element a) IsSmallElement (element_by a) row.values is.values;
+  multipliers = multipliers_by a corank order le row.multipliers is.multipliers;
 }
 
-pub value_by : (c : Carried) (v : Term) → (is_residual_monomial c v.0 && (is_element c.algebra v.1 && not (is_zero_element v.1))) ≡ true → IsValue v
-value_by c v e =
-    let h = both (is_residual_monomial c v.0) (is_element c.algebra v.1 && not (is_zero_element v.1)) e in
-    record { monomial = residual_monomial c v.0 h.0; value = element_by c.algebra v.1 (both (is_element c.algebra v.1) (not (is_zero_element v.1)) h.1).0 }
+pub value_by : (a : Algebra) (n : ℕ) (v : Term) → is_functional_value a n v ≡ true → IsValue v
+value_by a n v e =
+    let h = both (is_low_monomial n v.0) (is_element a v.1 && not (is_zero_element v.1)) e in
+    record { monomial = low_monomial n v.0 h.0; value = element_by a v.1 (both (is_element a v.1) (not (is_zero_element v.1)) h.1).0 }
 
-pub unit_by : (a : Algebra) (u : UnitPair) → (is_element a u.0 && is_element a u.1) ≡ true → IsUnitLine u
+pub unit_by : (a : Algebra) (u : UnitPair) → is_unit_pair a u ≡ true → IsUnitLine u
 unit_by a u e =
     let h = both (is_element a u.0) (is_element a u.1) e in
     record { value = element_by a u.0 h.0; inverse = element_by a u.1 h.1 }
@@ -84,26 +84,7 @@ few_by (families.T p q r) e =
     let h = both (ltb p 256) (ltb q 256 && ltb r 256) e in
     let k = both (ltb q 256) (ltb r 256) h.1 in
     (ltb-true p 256 h.0, ltb-true q 256 k.0, ltb-true r 256 k.1)
-few_by families.E6 e = (refl, refl, refl)
-few_by families.E7 e = (refl, refl, refl)
-few_by families.E8 e = (refl, refl, refl)
-few_by families.P8 e = (refl, refl, refl)
-few_by families.X9 e = (refl, refl, refl)
-few_by families.J10 e = (refl, refl, refl)
-few_by families.E12 e = (refl, refl, refl)
-few_by families.E13 e = (refl, refl, refl)
-few_by families.E14 e = (refl, refl, refl)
-few_by families.Z11 e = (refl, refl, refl)
-few_by families.Z12 e = (refl, refl, refl)
-few_by families.Z13 e = (refl, refl, refl)
-few_by families.W12 e = (refl, refl, refl)
-few_by families.W13 e = (refl, refl, refl)
-few_by families.Q10 e = (refl, refl, refl)
-few_by families.Q11 e = (refl, refl, refl)
-few_by families.Q12 e = (refl, refl, refl)
-few_by families.S11 e = (refl, refl, refl)
-few_by families.S12 e = (refl, refl, refl)
-few_by families.U12 e = (refl, refl, refl)
+few_by _ e = (refl, refl, refl)
 
 -- ---- rows with their count
 
@@ -116,11 +97,11 @@ mather_one c le us vs x y ou ov e =
 -- ---- named reports
 
 pub basis_rest : (us vs : List Exp) (x y : List ℕ) → AllByRecursion IsMonomial us → AllByRecursion IsMonomial vs
-    → line (word_text words.Basis ++ flat_map (λ m. 32 ∷ monomial_text m) us) ++ x ≡ line (word_text words.Basis ++ flat_map (λ m. 32 ∷ monomial_text m) vs) ++ y → (us ≡ vs) × (x ≡ y)
+    → line (basis_inside us) ++ x ≡ line (basis_inside vs) ++ y → (us ≡ vs) × (x ≡ y)
 unfolding line
 basis_rest us vs x y ou ov e =
-    let U = flat_map (λ m. 32 ∷ monomial_text m) us in
-    let V = flat_map (λ m. 32 ∷ monomial_text m) vs in
+    let U = monomials_text us in
+    let V = monomials_text vs in
     let left : ((word_text words.Basis ++ U) ++ 10 ∷ []) ++ x ≡ word_text words.Basis ++ (U ++ (10 ∷ x)) = simp append_assoc in
     let right : ((word_text words.Basis ++ V) ++ 10 ∷ []) ++ y ≡ word_text words.Basis ++ (V ++ (10 ∷ y)) = simp append_assoc in
     basis_one us vs x y ou ov (same_front (word_text words.Basis) _ _ (sym left ∙ e ∙ right))
@@ -128,7 +109,7 @@ basis_rest us vs x y ou ov e =
 regroup_named : (r : named_type.Named) (x : List ℕ) → named_text r ++ x
     ≡ word_line words.Named (family_text r.family) ++ (carried_text words.Form r.carried ++ (word_line words.Units (decimal (length r.units)) ++ (flat_map unit_text r.units
     ++ (word_line words.Modulus (modulus_text r.modulus) ++ (word_line words.Milnor (decimal r.milnor) ++ (mather_lines r.mather
-    ++ (line (word_text words.Basis ++ flat_map (λ m. 32 ∷ monomial_text m) r.quotient.basis) ++ (word_line words.Table (decimal (length r.quotient.table)) ++ (flat_map table_text r.quotient.table ++ x)))))))))
+    ++ (line (basis_inside r.quotient.basis) ++ (word_line words.Table (decimal (length r.quotient.table)) ++ (flat_map table_text r.quotient.table ++ x)))))))))
 unfolding named_text front_text evidence_text
 regroup_named r x = simp append_assoc
 
@@ -146,12 +127,12 @@ pub modulus_line : (a b : Algebra) (p q : ModulusLine) (x y : List ℕ) → is_v
 modulus_line a b p q x y vp vq e = modulus_one p q x y (modulus_by a p vp) (modulus_by b q vq) (word_rest words.Modulus (modulus_text p) (modulus_text q) x y e)
 
 units_by : (r : named_type.Named) → IsWellFormedNamed r → AllByRecursion IsUnitLine r.units
-units_by r w = all_from (λ u. is_element r.carried.algebra u.0 && is_element r.carried.algebra u.1) IsUnitLine (unit_by r.carried.algebra) r.units w.units
+units_by r w = all_from (is_unit_pair r.carried.algebra) IsUnitLine (unit_by r.carried.algebra) r.units w.units
 
 table_by : (r : named_type.Named) → IsWellFormedNamed r → AllByRecursion (IsTableLine (length r.quotient.basis) r.carried.corank r.carried.order) r.quotient.table
 table_by r w =
-    all_to (IsWellFormedTableRow r.carried (length r.quotient.basis)) (IsTableLine (length r.quotient.basis) r.carried.corank r.carried.order)
-    (table_row_by r.carried (length r.quotient.basis) w.carried.order_at_most) r.quotient.table w.table
+    all_to (IsTableRowOf r.carried.algebra r.carried.corank r.carried.order (length r.quotient.basis)) (IsTableLine (length r.quotient.basis) r.carried.corank r.carried.order)
+    (table_row_by r.carried.algebra r.carried.corank r.carried.order (length r.quotient.basis) w.carried.order_at_most) r.quotient.table w.table
 
 pub named_one : (r s : named_type.Named) (x y : List ℕ) → IsWellFormedNamed r → IsWellFormedNamed s → named_text r ++ x ≡ named_text s ++ y → (r ≡ s) × (x ≡ y)
 named_one r s x y wr ws e =
@@ -162,8 +143,8 @@ named_one r s x y wr ws e =
     let h5 = number_line words.Milnor r.milnor s.milnor _ _ (omega (arith, wr.milnor)) (omega (arith, ws.milnor)) h4.1 in
     let rows_s = subst (λ (c : Carried). AreRows c s.mather) (sym h2.0) ws.mather in
     let h6 = mather_one r.carried wr.carried.order_at_most r.mather s.mather _ _ wr.mather rows_s h5.1 in
-    let h7 = basis_rest r.quotient.basis s.quotient.basis _ _ (all_from (is_residual_monomial r.carried) IsMonomial (residual_monomial r.carried) r.quotient.basis wr.basis)
-    (all_from (is_residual_monomial s.carried) IsMonomial (residual_monomial s.carried) s.quotient.basis ws.basis) h6.1 in
+    let h7 = basis_rest r.quotient.basis s.quotient.basis _ _ (all_from (is_low_monomial r.carried.corank) IsMonomial (low_monomial r.carried.corank) r.quotient.basis wr.basis)
+    (all_from (is_low_monomial s.carried.corank) IsMonomial (low_monomial s.carried.corank) s.quotient.basis ws.basis) h6.1 in
     let size : length s.quotient.basis ≡ length r.quotient.basis = sym (ap length h7.0) in
     let table_s = subst (λ (k : ℕ). AllByRecursion (IsTableLine k r.carried.corank r.carried.order) s.quotient.table) size
     (subst (λ (c : Carried). AllByRecursion (IsTableLine (length s.quotient.basis) c.corank c.order) s.quotient.table) (sym h2.0) (table_by s ws)) in
@@ -194,13 +175,13 @@ functional_head m n k l x y om on lk ll e =
     (a.0, b.0, (head 10 10 x y b.1).1)
 
 values_by : (r : limit_type.Limit) → IsWellFormedLimit r → AllByRecursion IsValue r.functional
-values_by r w = all_from (λ v. is_residual_monomial r.carried v.0 && (is_element r.carried.algebra v.1 && not (is_zero_element v.1))) IsValue (value_by r.carried) r.functional w.functional
+values_by r w = all_from (is_functional_value r.carried.algebra r.carried.corank) IsValue (value_by r.carried.algebra r.carried.corank) r.functional w.functional
 
 pub limit_one : (r s : limit_type.Limit) (x y : List ℕ) → IsWellFormedLimit r → IsWellFormedLimit s → limit_text r ++ x ≡ limit_text s ++ y → (r ≡ s) × (x ≡ y)
 limit_one r s x y wr ws e =
     let h1 = same_front (line (word_text words.Limit)) _ _ (sym (regroup_limit r x) ∙ e ∙ regroup_limit s y) in
     let h2 = carried_one words.Jet r.carried s.carried _ _ wr.carried ws.carried h1 in
-    let h3 = functional_head r.at s.at (length r.functional) (length s.functional) _ _ (residual_monomial r.carried r.at wr.at) (residual_monomial s.carried s.at ws.at) (omega (arith, wr.few)) (omega (arith, ws.few)) h2.1 in
+    let h3 = functional_head r.at s.at (length r.functional) (length s.functional) _ _ (low_monomial r.carried.corank r.at wr.at) (low_monomial s.carried.corank s.at ws.at) (omega (arith, wr.few)) (omega (arith, ws.few)) h2.1 in
     let h4 = all_of IsValue functional_text functional_line r.functional s.functional x y h3.1 (values_by r wr) (values_by s ws) h3.2 in
     (limit_is r s h2.0 h3.0 h4.0, h4.1)
 

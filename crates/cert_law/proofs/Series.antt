@@ -130,7 +130,7 @@ no_factor : starred (record { e = 0 ∷ 0 ∷ 0 ∷ 0 ∷ 0 ∷ 0 ∷ 0 ∷ 0 �
 unfolding factors_text new_names
 no_factor = refl
 
-no_factors : (m : Exp) → IsMonomial m → is_one m ≡ true → starred m ≡ []
+pub no_factors : (m : Exp) → IsMonomial m → is_one m ≡ true → starred m ≡ []
 no_factors m is one =
     let zeros = zeros_same m.e (0 ∷ 0 ∷ 0 ∷ 0 ∷ 0 ∷ 0 ∷ 0 ∷ 0 ∷ []) is.eight one refl in
     ap starred (exponents_is m (record { e = 0 ∷ 0 ∷ 0 ∷ 0 ∷ 0 ∷ 0 ∷ 0 ∷ 0 ∷ [] }) zeros) ∙ no_factor

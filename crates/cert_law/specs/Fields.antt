@@ -10,6 +10,10 @@ use Rattle.jet_poly.specs.JetTerms.{JetTerms}
 use Rattle.determinacy.specs.declared.row.MatherRow.{MatherRow}
 use Rattle.milnor_alg.specs.declared.quotient.TableRow.{TableRow}
 
+-- the fraction 0
+abbrev pub zero_fraction : Frac
+zero_fraction = record { num = pos 0; den = pos 1 }
+
 -- an element of an algebra over the rational numbers
 abbrev pub Element : Type 0
 Element = Ext Frac

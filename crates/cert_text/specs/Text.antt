@@ -44,8 +44,11 @@ algebra_text (Quadratic m1 m0) = codes "t^2" ++ flat_map signed_text (component 
 algebra_text (Cubic m2 m1 m0) = codes "t^3" ++ flat_map signed_text (component m2 (codes "*t^2")) ++ flat_map signed_text (component m1 (codes "*t")) ++ flat_map signed_text (component m0 [])
 
 -- `x = u1+u2`
+abbrev pub part_inside : Name × JetTerms (Ext Frac) → List ℕ
+part_inside named = name_text named.0 ++ codes " = " ++ jet_text named.1
+
 unfoldable pub part_text : Name → JetTerms (Ext Frac) → List ℕ
-part_text name part = line (name_text name ++ codes " = " ++ jet_text part)
+part_text name part = line (part_inside (name, part))
 
 -- one line for each name and its part
 unfoldable pub parts_text : List Name → List (JetTerms (Ext Frac)) → List ℕ
@@ -53,10 +56,14 @@ parts_text [] parts = []
 parts_text (name ∷ names) [] = []
 parts_text (name ∷ names) (part ∷ parts) = part_text name part ++ parts_text names parts
 
+-- elements, each after a space
+abbrev pub values_text : List (Ext Frac) → List ℕ
+values_text es = flat_map (λ v. 32 ∷ element_text v) es
+
 -- elements with a space between them
 unfoldable pub spaced : List (Ext Frac) → List ℕ
 spaced [] = []
-spaced (e ∷ es) = element_text e ++ flat_map (λ v. 32 ∷ element_text v) es
+spaced (e ∷ es) = element_text e ++ values_text es
 
 -- so many rows of n elements
 unfoldable pub rows_text : ℕ → ℕ → List (Ext Frac) → List ℕ
@@ -83,22 +90,31 @@ multipliers_text [] = []
 multipliers_text (f ∷ fs) = 32 ∷ jet_text f ++ flat_map (λ g. codes " ; " ++ jet_text g) fs
 
 -- `u1^4 = 1/3*u1^2`
+abbrev pub mather_inside : MatherRow (Ext Frac) → List ℕ
+mather_inside row = monomial_text row.monomial ++ codes " =" ++ multipliers_text row.multipliers
+
 unfoldable pub mather_text : MatherRow (Ext Frac) → List ℕ
-mather_text row = line (monomial_text row.monomial ++ codes " =" ++ multipliers_text row.multipliers)
+mather_text row = line (mather_inside row)
 
 -- `mather N` and N rows
 unfoldable pub mather_lines : List (MatherRow (Ext Frac)) → List ℕ
 mather_lines rows = word_line words.Mather (decimal (length rows)) ++ flat_map mather_text rows
 
 -- `u1^3 = 0 0 : 1/3*u1`
+abbrev pub table_inside : TableRow (Ext Frac) → List ℕ
+table_inside row = monomial_text row.monomial ++ codes " =" ++ values_text row.values ++ codes " :" ++ multipliers_text row.multipliers
+
 unfoldable pub table_text : TableRow (Ext Frac) → List ℕ
-table_text row = line (monomial_text row.monomial ++ codes " =" ++ flat_map (λ v. 32 ∷ element_text v) row.values ++ codes " :" ++ multipliers_text row.multipliers)
+table_text row = line (table_inside row)
 
 -- ---- a named report
 
 -- a value and its inverse
+abbrev pub unit_inside : Ext Frac × Ext Frac → List ℕ
+unit_inside u = element_text u.0 ++ 32 ∷ element_text u.1
+
 unfoldable pub unit_text : Ext Frac × Ext Frac → List ℕ
-unit_text u = line (element_text u.0 ++ 32 ∷ element_text u.1)
+unit_text u = line (unit_inside u)
 
 unfoldable pub modulus_text : ModulusLine → List ℕ
 modulus_text moduli.None = codes "none"
@@ -116,11 +132,19 @@ front_text r =
     ++ word_line words.Modulus (modulus_text r.modulus)
     ++ word_line words.Milnor (decimal r.milnor)
 
+-- monomials, each after a space
+abbrev pub monomials_text : List Exp → List ℕ
+monomials_text ms = flat_map (λ m. 32 ∷ monomial_text m) ms
+
+-- `basis 1 u1`
+abbrev pub basis_inside : List Exp → List ℕ
+basis_inside ms = word_text words.Basis ++ monomials_text ms
+
 -- the lines after it: Mather's rows, the basis and the table
 unfoldable pub evidence_text : named_type.Named → List ℕ
 evidence_text r =
     mather_lines r.mather
-    ++ line (word_text words.Basis ++ flat_map (λ m. 32 ∷ monomial_text m) r.quotient.basis)
+    ++ line (basis_inside r.quotient.basis)
     ++ word_line words.Table (decimal (length r.quotient.table))
     ++ flat_map table_text r.quotient.table
 
@@ -133,8 +157,11 @@ unfoldable pub outside_text : outside_type.Outside → List ℕ
 outside_text r = word_line words.Outside (pattern_text r.pattern) ++ carried_text words.Jet r.carried
 
 -- a monomial and the value of the functional there
+abbrev pub functional_inside : Exp × Ext Frac → List ℕ
+functional_inside v = monomial_text v.0 ++ 32 ∷ element_text v.1
+
 unfoldable pub functional_text : Exp × Ext Frac → List ℕ
-functional_text v = line (monomial_text v.0 ++ 32 ∷ element_text v.1)
+functional_text v = line (functional_inside v)
 
 unfoldable pub limit_text : limit_type.Limit → List ℕ
 limit_text r =

@@ -82,20 +82,51 @@ pub record IsWellFormedCarried (c : Carried) : Type 0 where
   pub matrix : IsTrue (list_all (is_element c.algebra) c.change.inverse)
   pub jet : IsJetOf (length c.names) c.order c.algebra c.jet
 
--- a monomial in the residual variables
-abbrev pub is_residual_monomial : Carried → Exp → Bool
-is_residual_monomial c m = is_monomial_in c.corank m && nat_le (sum m.e) 17
+-- a monomial in the first n variables of degree at most 17
+abbrev pub is_low_monomial : ℕ → Exp → Bool
+is_low_monomial n m = is_monomial_in n m && nat_le (sum m.e) 17
 
--- one multiplier for each residual variable
-pub record AreMultipliers (c : Carried) (fs : List (JetTerms (Ext Frac))) : Type 0 where
-  pub count : length fs ≡ c.corank
-  pub each : AllByRecursion (IsJetOf c.corank c.order c.algebra) fs
+-- one jet for each residual variable
+pub record AreJetsOf (a : Algebra) (corank order : ℕ) (fs : List (JetTerms (Ext Frac))) : Type 0 where
+  pub count : length fs ≡ corank
+  pub each : AllByRecursion (IsJetOf corank order a) fs
 
 -- a row for Mather's condition; with corank 0 there is none
-pub record IsWellFormedRow (c : Carried) (row : MatherRow (Ext Frac)) : Type 0 where
-  pub residual : 1 ≤ c.corank
-  pub monomial : IsTrue (is_residual_monomial c row.monomial)
-  pub multipliers : AreMultipliers c row.multipliers
+pub record IsRowOf (a : Algebra) (corank order : ℕ) (row : MatherRow (Ext Frac)) : Type 0 where
+  pub residual : 1 ≤ corank
+  pub monomial : IsTrue (is_low_monomial corank row.monomial)
+  pub multipliers : AreJetsOf a corank order row.multipliers
+
+-- a row of the table over a basis of this size
+pub record IsTableRowOf (a : Algebra) (corank order size : ℕ) (row : TableRow (Ext Frac)) : Type 0 where
+  pub monomial : IsTrue (is_low_monomial corank row.monomial)
+  pub count : length row.values ≡ size
+  pub values : IsTrue (list_all (is_element a) row.values)
+  pub multipliers : AreJetsOf a corank order row.multipliers
+
+-- a value and its inverse, both elements of the algebra
+abbrev pub is_unit_pair : Algebra → Ext Frac × Ext Frac → Bool
+is_unit_pair a u = is_element a u.0 && is_element a u.1
+
+-- a monomial in the first n variables with the value of a functional there, which is not 0
+abbrev pub is_functional_value : Algebra → ℕ → Exp × Ext Frac → Bool
+is_functional_value a n v = is_low_monomial n v.0 && (is_element a v.1 && not (is_zero_element v.1))
+
+-- such a monomial in the residual variables of a germ
+abbrev pub is_residual_monomial : Carried → Exp → Bool
+is_residual_monomial c m = is_low_monomial c.corank m
+
+-- one multiplier for each of them, over its algebra and up to its order
+abbrev pub AreMultipliers : Carried → List (JetTerms (Ext Frac)) → Type 0
+AreMultipliers c fs = AreJetsOf c.algebra c.corank c.order fs
+
+-- a row for Mather's condition of it
+abbrev pub IsWellFormedRow : Carried → MatherRow (Ext Frac) → Type 0
+IsWellFormedRow c row = IsRowOf c.algebra c.corank c.order row
+
+-- a row of its table over a basis of this size
+abbrev pub IsWellFormedTableRow : Carried → ℕ → TableRow (Ext Frac) → Type 0
+IsWellFormedTableRow c size row = IsTableRowOf c.algebra c.corank c.order size row
 
 -- at most as many rows as a list may have
 pub record AreRows (c : Carried) (rows : List (MatherRow (Ext Frac))) : Type 0 where
@@ -109,45 +140,23 @@ is_valid_modulus a moduli.Form = true
 is_valid_modulus a (moduli.Value e) = is_element a e
 is_valid_modulus a (moduli.J x) = is_frac x
 
--- a row of the table, with a value for each monomial of the basis
-pub record IsWellFormedTableRow (c : Carried) (size : ℕ) (row : TableRow (Ext Frac)) : Type 0 where
-  pub monomial : IsTrue (is_residual_monomial c row.monomial)
-  pub count : length row.values ≡ size
-  pub values : IsTrue (list_all (is_element c.algebra) row.values)
-  pub multipliers : AreMultipliers c row.multipliers
-
 -- the numbers of a family's name are bytes
 abbrev pub has_small_numbers : Family → Bool
 has_small_numbers (families.A m) = nat_lt m 256
 has_small_numbers (families.D m) = nat_lt m 256
 has_small_numbers (families.T p q r) = nat_lt p 256 && (nat_lt q 256 && nat_lt r 256)
-has_small_numbers families.E6 = true
-has_small_numbers families.E7 = true
-has_small_numbers families.E8 = true
-has_small_numbers families.P8 = true
-has_small_numbers families.X9 = true
-has_small_numbers families.J10 = true
-has_small_numbers families.E12 = true
-has_small_numbers families.E13 = true
-has_small_numbers families.E14 = true
-has_small_numbers families.Z11 = true
-has_small_numbers families.Z12 = true
-has_small_numbers families.Z13 = true
-has_small_numbers families.W12 = true
-has_small_numbers families.W13 = true
-has_small_numbers families.Q10 = true
-has_small_numbers families.Q11 = true
-has_small_numbers families.Q12 = true
-has_small_numbers families.S11 = true
-has_small_numbers families.S12 = true
-has_small_numbers families.U12 = true
+has_small_numbers _ = true
+
+-- a family of the list whose numbers are bytes
+abbrev pub IsFamily : Family → Type 0
+IsFamily family = IsTrue (is_family family && has_small_numbers family)
 
 -- a family of the list with small numbers, valid units, rows of Mather's condition, and a table over a basis of at least one monomial
 pub record IsWellFormedNamed (r : named_type.Named) : Type 0 where
-  pub family : IsTrue (is_family r.family && has_small_numbers r.family)
+  pub family : IsFamily r.family
   pub carried : IsWellFormedCarried r.carried
   pub few_units : length r.units ≤ list_limit
-  pub units : IsTrue (list_all (λ u. is_element r.carried.algebra u.0 && is_element r.carried.algebra u.1) r.units)
+  pub units : IsTrue (list_all (is_unit_pair r.carried.algebra) r.units)
   pub modulus : IsTrue (is_valid_modulus r.carried.algebra r.modulus)
   pub milnor : r.milnor < 2 ^ 32
   pub mather : AreRows r.carried r.mather
@@ -163,7 +172,7 @@ pub record IsWellFormedLimit (r : limit_type.Limit) : Type 0 where
   pub at : IsTrue (is_residual_monomial r.carried r.at)
   pub few : length r.functional ≤ list_limit
   pub rising : IsRising r.functional
-  pub functional : IsTrue (list_all (λ v. is_residual_monomial r.carried v.0 && (is_element r.carried.algebra v.1 && not (is_zero_element v.1))) r.functional)
+  pub functional : IsTrue (list_all (is_functional_value r.carried.algebra r.carried.corank) r.functional)
 
 -- rows of Mather's condition
 pub record IsWellFormedUnresolved (r : unresolved_type.Unresolved) : Type 0 where
@@ -176,13 +185,17 @@ is_extension Rational = false
 is_extension (Quadratic m1 m0) = true
 is_extension (Cubic m2 m1 m0) = true
 
+-- a valid algebra other than Q
+abbrev pub IsExtension : Algebra → Type 0
+IsExtension a = IsTrue (is_algebra a && is_extension a)
+
 -- columns below 2^32, a name of the grammar, or what the kind of answer carries
 abbrev pub IsWellFormedAnswer : Answer → Type 0
 IsWellFormedAnswer (answers.Syntax column what) = column < 2 ^ 32
 IsWellFormedAnswer (answers.Literal column) = column < 2 ^ 32
 IsWellFormedAnswer (answers.NotCritical variable) = IsTrue (is_valid_name variable)
 IsWellFormedAnswer (answers.Range phase) = Unit {0}
-IsWellFormedAnswer (answers.Field algebra) = IsTrue (is_algebra algebra && is_extension algebra)
+IsWellFormedAnswer (answers.Field algebra) = IsExtension algebra
 IsWellFormedAnswer answers.Unbuilt = Unit {0}
 IsWellFormedAnswer (answers.Named r) = IsWellFormedNamed r
 IsWellFormedAnswer (answers.Outside r) = IsWellFormedCarried r.carried

@@ -1,6 +1,7 @@
 -- Answers by their lines.
 use Rattle.std.proofs.Common.{◌≡◌, ℕ, zero, suc, ◌+◌, ◌*◌, ◌≤◌, ◌⊎◌, inl, inr, List, [], ◌++◌, length, get_or, refl, sym, ap, ◌∙◌, append_assoc, append-nil, arith}
 use Rattle.std.specs.Prelude.{decimal, IsTrue}
+use Rattle.std.proofs.lemmas.Bool.{cases_lt}
 use Rattle.ext_algebra.specs.Algebra.{is_algebra}
 use Rattle.normal_forms.specs.declared.family.Family.{Family}
 use Rattle.normal_forms.specs.declared.pattern.Pattern.{Pattern}
@@ -15,21 +16,19 @@ use Rattle.cert_text.specs.declared.word.Word.TheVariants as words
 use Rattle.cert_text.specs.Words.{word_text}
 use Rattle.cert_text.specs.Names.{phase_text, family_text, pattern_text}
 use Rattle.cert_text.specs.Text.{line, word_line, algebra_text, answer_text, carried_text, named_text, front_text, evidence_text, mather_lines, outside_text, limit_text, unresolved_text}
-use Rattle.cert_text.specs.WellFormed.{is_valid_name, is_extension, IsWellFormedAnswer, IsWellFormedCarried, IsWellFormedLimit, IsWellFormedUnresolved}
+use Rattle.cert_text.specs.WellFormed.{is_valid_name, is_extension, IsWellFormedAnswer, IsWellFormedCarried, IsWellFormedLimit, IsWellFormedUnresolved, IsFamily, IsExtension}
 use Rattle.cert_law.proofs.Letters.{pattern_one}
 use Rattle.cert_law.proofs.Carrying.{word_rest}
 use Rattle.cert_law.proofs.Reporting as reporting
 use Rattle.cert_law.proofs.Valid.{both}
 use Rattle.text_reader.specs.Reading.{IsAny}
-use Rattle.text_reader.specs.Moduli.{IsExtension}
 use Rattle.text_reader.proofs.Visible.{digits_lack}
-use Rattle.report_reader.specs.Lines.{IsWithin, IsFamily, IsPlace, place_text}
+use Rattle.report_reader.specs.Lines.{IsWithin, IsPlace, place_text}
 use Rattle.report_reader.specs.Blocks.{IsStop, IsNotAtFront}
 use Rattle.report_reader.specs.Evidence.{IsOfFamily, named_rest, units_rest, modulus_rest, milnor_rest, mather_rest, basis_rest, unresolved_rest}
 use Rattle.report_reader.specs.Answers.{IsPlaced, IsUnplaced, kind_of, IsFromKind, limit_rest}
 use Rattle.report_reader.proofs.Fronts.{line-word, line-word_line}
-use Rattle.report_reader.proofs.Shown.{shows-clean, shows-algebra, shows-name}
-use Rattle.report_reader.proofs.Words.{family_clean, pattern_clean, phase_clean, place_clean}
+use Rattle.report_reader.proofs.CleanTexts.{family_clean, pattern_clean, phase_clean, place_clean, extension_clean, name_clean}
 use Rattle.report_reader.proofs.Stops.{IsLine, IsApart, apart_fronts, stop_here, stop_behind, stop_before, whole-line}
 use Rattle.report_reader.proofs.CarriedLines.{some_carried}
 
@@ -39,27 +38,15 @@ unfolding answer_text
 no_placed bytes a b d (answers.Syntax column what) more ok e = a (column, what) more ok e
 no_placed bytes a b d (answers.Literal column) more ok e = b column more (omega arith, omega (arith, ok)) e
 no_placed bytes a b d (answers.NotCritical variable) more ok e = d variable more ok e
-no_placed bytes a b d (answers.Range phase) more ok e = ok
-no_placed bytes a b d (answers.Field algebra) more ok e = ok
-no_placed bytes a b d answers.Unbuilt more ok e = ok
-no_placed bytes a b d (answers.Named r) more ok e = ok
-no_placed bytes a b d (answers.Outside r) more ok e = ok
-no_placed bytes a b d (answers.Limit r) more ok e = ok
-no_placed bytes a b d (answers.Unresolved r) more ok e = ok
+no_placed bytes a b d _ more ok e = ok
 
 pub no_unplaced : (bytes : List ℕ) → IsNotAtFront IsAny (λ v. word_line words.Range (phase_text v)) bytes → IsNotAtFront IsExtension (λ v. word_line words.Field (algebra_text v)) bytes
     → ((more : List ℕ) → line (word_text words.Unbuilt) ++ more ≡ bytes → ⊥) → IsNotAtFront IsUnplaced answer_text bytes
 unfolding answer_text
-no_unplaced bytes a b d (answers.Syntax column what) more ok e = ok
-no_unplaced bytes a b d (answers.Literal column) more ok e = ok
-no_unplaced bytes a b d (answers.NotCritical variable) more ok e = ok
 no_unplaced bytes a b d (answers.Range phase) more ok e = a phase more tt e
 no_unplaced bytes a b d (answers.Field algebra) more ok e = b algebra more ok e
 no_unplaced bytes a b d answers.Unbuilt more ok e = d more e
-no_unplaced bytes a b d (answers.Named r) more ok e = ok
-no_unplaced bytes a b d (answers.Outside r) more ok e = ok
-no_unplaced bytes a b d (answers.Limit r) more ok e = ok
-no_unplaced bytes a b d (answers.Unresolved r) more ok e = ok
+no_unplaced bytes a b d _ more ok e = ok
 
 -- ---- the kind of an answer, by the first and the third letter behind `answer`
 
@@ -81,15 +68,7 @@ letters_of (answers.Unresolved r) = 30066
 letters_are : (a : Answer) (x : List ℕ) → letters_in (answer_text a ++ x) ≡ letters_of a
 unfolding letters_in letters_of answer_text named_text front_text outside_text limit_text unresolved_text word_line line word_text
 letters_are (answers.Syntax column what) x = refl
-letters_are (answers.Literal column) x = refl
-letters_are (answers.NotCritical variable) x = refl
-letters_are (answers.Range phase) x = refl
-letters_are (answers.Field algebra) x = refl
-letters_are answers.Unbuilt x = refl
-letters_are (answers.Named r) x = refl
-letters_are (answers.Outside r) x = refl
-letters_are (answers.Limit r) x = refl
-letters_are (answers.Unresolved r) x = refl
+letters_are _ x = refl
 
 word_letters : (t x : List ℕ) → (letters_in (word_line words.Named t ++ x) ≡ 28269) × (letters_in (word_line words.Outside t ++ x) ≡ 28532) × (letters_in (line (word_text words.Limit) ++ x) ≡ 27757) × (letters_in (line (word_text words.Unresolved) ++ x) ≡ 30066)
 unfolding letters_in word_line line word_text
@@ -117,15 +96,7 @@ unfolding letters_of answer_text
 named_out family (answers.Named r) x y w h k e =
     let f = reporting.family_line r.family family (named_rest r ++ x) y h.family w (sym (append_assoc (word_line words.Named (family_text r.family)) (named_rest r) x) ∙ ap (λ (z : List ℕ). z ++ x) (sym (named_split r)) ∙ e) in
     (r, (h, f.0), named_split r ∙ ap (λ (z : Family). word_line words.Named (family_text z) ++ named_rest r) f.0)
-named_out family (answers.Syntax column what) x y w h k e = absurd (omega (arith, k))
-named_out family (answers.Literal column) x y w h k e = absurd (omega (arith, k))
-named_out family (answers.NotCritical variable) x y w h k e = absurd (omega (arith, k))
-named_out family (answers.Range phase) x y w h k e = absurd (omega (arith, k))
-named_out family (answers.Field algebra) x y w h k e = absurd (omega (arith, k))
-named_out family answers.Unbuilt x y w h k e = absurd (omega (arith, k))
-named_out family (answers.Outside r) x y w h k e = absurd (omega (arith, k))
-named_out family (answers.Limit r) x y w h k e = absurd (omega (arith, k))
-named_out family (answers.Unresolved r) x y w h k e = absurd (omega (arith, k))
+named_out family _ x y w h k e = absurd (omega (arith, k))
 
 outside_out : (pattern : Pattern) (a : Answer) (x y : List ℕ) → IsWellFormedAnswer a → letters_of a ≡ 28532 → answer_text a ++ x ≡ word_line words.Outside (pattern_text pattern) ++ y
     → (c : Carried) × IsWellFormedCarried c × (answer_text a ≡ word_line words.Outside (pattern_text pattern) ++ carried_text words.Jet c)
@@ -133,41 +104,17 @@ unfolding letters_of answer_text outside_text
 outside_out pattern (answers.Outside r) x y h k e =
     let f = pattern_one r.pattern pattern (carried_text words.Jet r.carried ++ x) y (word_rest words.Outside (pattern_text r.pattern) (pattern_text pattern) (carried_text words.Jet r.carried ++ x) y (sym (append_assoc (word_line words.Outside (pattern_text r.pattern)) (carried_text words.Jet r.carried) x) ∙ e)) in
     (r.carried, h, ap (λ (z : Pattern). word_line words.Outside (pattern_text z) ++ carried_text words.Jet r.carried) f.0)
-outside_out pattern (answers.Syntax column what) x y h k e = absurd (omega (arith, k))
-outside_out pattern (answers.Literal column) x y h k e = absurd (omega (arith, k))
-outside_out pattern (answers.NotCritical variable) x y h k e = absurd (omega (arith, k))
-outside_out pattern (answers.Range phase) x y h k e = absurd (omega (arith, k))
-outside_out pattern (answers.Field algebra) x y h k e = absurd (omega (arith, k))
-outside_out pattern answers.Unbuilt x y h k e = absurd (omega (arith, k))
-outside_out pattern (answers.Named r) x y h k e = absurd (omega (arith, k))
-outside_out pattern (answers.Limit r) x y h k e = absurd (omega (arith, k))
-outside_out pattern (answers.Unresolved r) x y h k e = absurd (omega (arith, k))
+outside_out pattern _ x y h k e = absurd (omega (arith, k))
 
 limit_out : (a : Answer) → IsWellFormedAnswer a → letters_of a ≡ 27757 → (r : limit_type.Limit) × IsWellFormedLimit r × (answer_text a ≡ line (word_text words.Limit) ++ limit_rest r)
 unfolding letters_of answer_text
 limit_out (answers.Limit r) h k = (r, h, limit_split r)
-limit_out (answers.Syntax column what) h k = absurd (omega (arith, k))
-limit_out (answers.Literal column) h k = absurd (omega (arith, k))
-limit_out (answers.NotCritical variable) h k = absurd (omega (arith, k))
-limit_out (answers.Range phase) h k = absurd (omega (arith, k))
-limit_out (answers.Field algebra) h k = absurd (omega (arith, k))
-limit_out answers.Unbuilt h k = absurd (omega (arith, k))
-limit_out (answers.Named r) h k = absurd (omega (arith, k))
-limit_out (answers.Outside r) h k = absurd (omega (arith, k))
-limit_out (answers.Unresolved r) h k = absurd (omega (arith, k))
+limit_out _ h k = absurd (omega (arith, k))
 
 unresolved_out : (a : Answer) → IsWellFormedAnswer a → letters_of a ≡ 30066 → (r : unresolved_type.Unresolved) × IsWellFormedUnresolved r × (answer_text a ≡ line (word_text words.Unresolved) ++ unresolved_rest r)
 unfolding letters_of answer_text
 unresolved_out (answers.Unresolved r) h k = (r, h, unresolved_split r)
-unresolved_out (answers.Syntax column what) h k = absurd (omega (arith, k))
-unresolved_out (answers.Literal column) h k = absurd (omega (arith, k))
-unresolved_out (answers.NotCritical variable) h k = absurd (omega (arith, k))
-unresolved_out (answers.Range phase) h k = absurd (omega (arith, k))
-unresolved_out (answers.Field algebra) h k = absurd (omega (arith, k))
-unresolved_out answers.Unbuilt h k = absurd (omega (arith, k))
-unresolved_out (answers.Named r) h k = absurd (omega (arith, k))
-unresolved_out (answers.Outside r) h k = absurd (omega (arith, k))
-unresolved_out (answers.Limit r) h k = absurd (omega (arith, k))
+unresolved_out _ h k = absurd (omega (arith, k))
 
 -- ---- stops behind the first line
 
@@ -230,21 +177,10 @@ stop_at_last bytes none = stop_here (IsFromKind 4) answer_text bytes (answers.Un
   where
     last_apart : (a : Answer) → IsWellFormedAnswer a → 4 ≤ kind_of a → IsApart (answer_text a) bytes
     last_apart (answers.Unresolved r) h k = split_apart (unresolved_text r) (line (word_text words.Unresolved)) (unresolved_rest r) bytes (unresolved_split r) (line-word words.Unresolved) none
-    last_apart (answers.Syntax column what) h k = absurd (omega (arith, k))
-    last_apart (answers.Literal column) h k = absurd (omega (arith, k))
-    last_apart (answers.NotCritical variable) h k = absurd (omega (arith, k))
-    last_apart (answers.Range phase) h k = absurd (omega (arith, k))
-    last_apart (answers.Field algebra) h k = absurd (omega (arith, k))
-    last_apart answers.Unbuilt h k = absurd (omega (arith, k))
-    last_apart (answers.Named r) h k = absurd (omega (arith, k))
-    last_apart (answers.Outside r) h k = absurd (omega (arith, k))
-    last_apart (answers.Limit r) h k = absurd (omega (arith, k))
+    last_apart _ h k = absurd (omega (arith, k))
 
 either : (kind n : ℕ) → kind ≤ n → (n ≡ kind) ⊎ (suc kind ≤ n)
-either zero zero le = inl refl
-either zero (suc n) le = inr (omega arith)
-either (suc k) zero le = absurd (omega (arith, le))
-either (suc k) (suc n) le = elim (either k n (omega (arith, le))) [ inl e ↦ inl (omega (arith, e)) | inr lt ↦ inr (omega (arith, lt)) ]
+either kind n le = elim (cases_lt kind n) [ inl lt ↦ inr (omega (arith, lt)) | inr ge ↦ inl (omega (arith, ge, le)) ]
 
 -- a stop among the later kinds, where no answer of this kind has a first line that stands at the front
 pub stop_later : (kind : ℕ) (bytes : List ℕ) (left : ℕ) → ((a : Answer) → IsWellFormedAnswer a → kind_of a ≡ kind → IsApart (answer_text a) bytes) → IsStop (IsFromKind (suc kind)) answer_text bytes left → IsStop (IsFromKind kind) answer_text bytes left
@@ -268,41 +204,17 @@ stop_later kind bytes left apart s = record {
 pub limit_apart : (bytes : List ℕ) → ((more : List ℕ) → line (word_text words.Limit) ++ more ≡ bytes → ⊥) → (a : Answer) → IsWellFormedAnswer a → kind_of a ≡ 3 → IsApart (answer_text a) bytes
 unfolding answer_text
 limit_apart bytes none (answers.Limit r) h k = split_apart (limit_text r) (line (word_text words.Limit)) (limit_rest r) bytes (limit_split r) (line-word words.Limit) none
-limit_apart bytes none (answers.Syntax column what) h k = absurd (omega (arith, k))
-limit_apart bytes none (answers.Literal column) h k = absurd (omega (arith, k))
-limit_apart bytes none (answers.NotCritical variable) h k = absurd (omega (arith, k))
-limit_apart bytes none (answers.Range phase) h k = absurd (omega (arith, k))
-limit_apart bytes none (answers.Field algebra) h k = absurd (omega (arith, k))
-limit_apart bytes none answers.Unbuilt h k = absurd (omega (arith, k))
-limit_apart bytes none (answers.Named r) h k = absurd (omega (arith, k))
-limit_apart bytes none (answers.Outside r) h k = absurd (omega (arith, k))
-limit_apart bytes none (answers.Unresolved r) h k = absurd (omega (arith, k))
+limit_apart bytes none _ h k = absurd (omega (arith, k))
 
 pub outside_apart : (bytes : List ℕ) → IsNotAtFront IsAny (λ v. word_line words.Outside (pattern_text v)) bytes → (a : Answer) → IsWellFormedAnswer a → kind_of a ≡ 2 → IsApart (answer_text a) bytes
 unfolding answer_text outside_text
 outside_apart bytes none (answers.Outside r) h k = split_apart (word_line words.Outside (pattern_text r.pattern) ++ carried_text words.Jet r.carried) (word_line words.Outside (pattern_text r.pattern)) (carried_text words.Jet r.carried) bytes refl (line-word_line words.Outside (pattern_text r.pattern) (pattern_clean r.pattern tt)) (λ more e. none r.pattern more tt e)
-outside_apart bytes none (answers.Syntax column what) h k = absurd (omega (arith, k))
-outside_apart bytes none (answers.Literal column) h k = absurd (omega (arith, k))
-outside_apart bytes none (answers.NotCritical variable) h k = absurd (omega (arith, k))
-outside_apart bytes none (answers.Range phase) h k = absurd (omega (arith, k))
-outside_apart bytes none (answers.Field algebra) h k = absurd (omega (arith, k))
-outside_apart bytes none answers.Unbuilt h k = absurd (omega (arith, k))
-outside_apart bytes none (answers.Named r) h k = absurd (omega (arith, k))
-outside_apart bytes none (answers.Limit r) h k = absurd (omega (arith, k))
-outside_apart bytes none (answers.Unresolved r) h k = absurd (omega (arith, k))
+outside_apart bytes none _ h k = absurd (omega (arith, k))
 
 pub named_apart : (bytes : List ℕ) → IsNotAtFront IsFamily (λ v. word_line words.Named (family_text v)) bytes → (a : Answer) → IsWellFormedAnswer a → kind_of a ≡ 1 → IsApart (answer_text a) bytes
 unfolding answer_text
 named_apart bytes none (answers.Named r) h k = split_apart (named_text r) (word_line words.Named (family_text r.family)) (named_rest r) bytes (named_split r) (line-word_line words.Named (family_text r.family) (family_clean r.family h.family)) (λ more e. none r.family more h.family e)
-named_apart bytes none (answers.Syntax column what) h k = absurd (omega (arith, k))
-named_apart bytes none (answers.Literal column) h k = absurd (omega (arith, k))
-named_apart bytes none (answers.NotCritical variable) h k = absurd (omega (arith, k))
-named_apart bytes none (answers.Range phase) h k = absurd (omega (arith, k))
-named_apart bytes none (answers.Field algebra) h k = absurd (omega (arith, k))
-named_apart bytes none answers.Unbuilt h k = absurd (omega (arith, k))
-named_apart bytes none (answers.Outside r) h k = absurd (omega (arith, k))
-named_apart bytes none (answers.Limit r) h k = absurd (omega (arith, k))
-named_apart bytes none (answers.Unresolved r) h k = absurd (omega (arith, k))
+named_apart bytes none _ h k = absurd (omega (arith, k))
 
 one_line : (text bytes : List ℕ) → IsLine text → ((more : List ℕ) → text ++ more ≡ bytes → ⊥) → IsApart text bytes
 one_line text bytes line none = split_apart text text [] bytes (sym (append-nil text)) line none
@@ -311,14 +223,11 @@ pub short_apart : (bytes : List ℕ) → IsNotAtFront IsPlaced answer_text bytes
 unfolding answer_text
 short_apart bytes p u (answers.Syntax column what) h k = one_line (answer_text (answers.Syntax column what)) bytes (line-word_line words.Syntax (place_text (column, what)) (place_clean (column, what) h)) (λ more e. p (answers.Syntax column what) more h e)
 short_apart bytes p u (answers.Literal column) h k = one_line (answer_text (answers.Literal column)) bytes (line-word_line words.Literal (decimal column) (digits_lack 10 column (omega arith) (omega (arith, h)))) (λ more e. p (answers.Literal column) more h e)
-short_apart bytes p u (answers.NotCritical variable) h k = one_line (answer_text (answers.NotCritical variable)) bytes (line-word_line words.NotCritical (name_text variable) (shows-clean (name_text variable) (shows-name variable h))) (λ more e. p (answers.NotCritical variable) more h e)
+short_apart bytes p u (answers.NotCritical variable) h k = one_line (answer_text (answers.NotCritical variable)) bytes (line-word_line words.NotCritical (name_text variable) (name_clean variable h)) (λ more e. p (answers.NotCritical variable) more h e)
 short_apart bytes p u (answers.Range phase) h k = one_line (answer_text (answers.Range phase)) bytes (line-word_line words.Range (phase_text phase) (phase_clean phase tt)) (λ more e. u (answers.Range phase) more tt e)
-short_apart bytes p u (answers.Field algebra) h k = one_line (answer_text (answers.Field algebra)) bytes (line-word_line words.Field (algebra_text algebra) (shows-clean (algebra_text algebra) (shows-algebra algebra (both (is_algebra algebra) (is_extension algebra) h).0))) (λ more e. u (answers.Field algebra) more h e)
+short_apart bytes p u (answers.Field algebra) h k = one_line (answer_text (answers.Field algebra)) bytes (line-word_line words.Field (algebra_text algebra) (extension_clean algebra h)) (λ more e. u (answers.Field algebra) more h e)
 short_apart bytes p u answers.Unbuilt h k = one_line (answer_text answers.Unbuilt) bytes (line-word words.Unbuilt) (λ more e. u answers.Unbuilt more tt e)
-short_apart bytes p u (answers.Named r) h k = absurd (omega (arith, k))
-short_apart bytes p u (answers.Outside r) h k = absurd (omega (arith, k))
-short_apart bytes p u (answers.Limit r) h k = absurd (omega (arith, k))
-short_apart bytes p u (answers.Unresolved r) h k = absurd (omega (arith, k))
+short_apart bytes p u _ h k = absurd (omega (arith, k))
 
 -- any kind
 pub stop_any : (bytes : List ℕ) (left : ℕ) → IsStop (IsFromKind 0) answer_text bytes left → IsStop IsWellFormedAnswer answer_text bytes left
@@ -329,25 +238,13 @@ pub placed_is : (a : Answer) → IsPlaced a → IsWellFormedAnswer a
 placed_is (answers.Syntax column what) h = h
 placed_is (answers.Literal column) h = h
 placed_is (answers.NotCritical variable) h = h
-placed_is (answers.Range phase) h = absurd h
-placed_is (answers.Field algebra) h = absurd h
-placed_is answers.Unbuilt h = absurd h
-placed_is (answers.Named r) h = absurd h
-placed_is (answers.Outside r) h = absurd h
-placed_is (answers.Limit r) h = absurd h
-placed_is (answers.Unresolved r) h = absurd h
+placed_is _ h = absurd h
 
 pub unplaced_is : (a : Answer) → IsUnplaced a → IsWellFormedAnswer a
-unplaced_is (answers.Syntax column what) h = absurd h
-unplaced_is (answers.Literal column) h = absurd h
-unplaced_is (answers.NotCritical variable) h = absurd h
 unplaced_is (answers.Range phase) h = tt
 unplaced_is (answers.Field algebra) h = h
 unplaced_is answers.Unbuilt h = tt
-unplaced_is (answers.Named r) h = absurd h
-unplaced_is (answers.Outside r) h = absurd h
-unplaced_is (answers.Limit r) h = absurd h
-unplaced_is (answers.Unresolved r) h = absurd h
+unplaced_is _ h = absurd h
 
 -- a later kind is of any earlier one
 pub later_is : (kind : ℕ) (a : Answer) → IsFromKind (suc kind) a → IsFromKind kind a

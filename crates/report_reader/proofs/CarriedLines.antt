@@ -15,18 +15,20 @@ use Rattle.cert_text.specs.Text.{line, word_line, algebra_text, rows_text, carri
 use Rattle.cert_text.specs.BadText.{IsWholeLines}
 use Rattle.cert_text.specs.WellFormed.{IsJetOf, IsPartOf, IsWellFormedCarried}
 use Rattle.cert_law.specs.Fields.{Element}
-use Rattle.cert_law.proofs.Carrying.{algebra_line}
+use Rattle.cert_law.proofs.Carrying.{algebra_line, carried_one}
+use Rattle.cert_law.specs.Unique.{IsSelfEnding}
 use Rattle.report_reader.specs.declared.frame.Frame.{Frame}
 use Rattle.report_reader.specs.declared.frame.Parts.{Parts}
 use Rattle.report_reader.specs.Lines.{IsWithin}
 use Rattle.report_reader.specs.Blocks.{IsStop, IsNotAtFront}
-use Rattle.report_reader.specs.States.{IsFrame, IsFramed, AreParts, AreRowsOf, change_text, change_rest, parts_of}
+use Rattle.report_reader.specs.States.{IsFrame, IsFramed, AreParts, change_text, change_rest, parts_of}
 use Rattle.report_reader.proofs.Fronts.{line-word, line-word_line}
-use Rattle.report_reader.proofs.Shown.{shows-clean, shows-jet, shows-algebra}
+use Rattle.report_reader.proofs.CleanTexts.{algebra_clean, jet_clean}
 use Rattle.report_reader.proofs.Stops.{IsLine, IsPair, stop_here, stop_behind, stop_before, pair_first, pair_second, whole-append, whole-line}
 use Rattle.report_reader.proofs.RowLines.{field_pair, line_stop, numbers_told, number_is_line}
-use Rattle.report_reader.proofs.PartLines.{change_whole, change_told, some_parts}
-use Rattle.report_reader.proofs.Matrix.{rows_whole, rows_told, some_matrix}
+use Rattle.report_reader.proofs.PartLines.{change_whole, change_told, some_parts, zero_jet, zero_part}
+use Rattle.report_reader.proofs.Matrix.{rows_told, matrix_whole, some_elements}
+use Rattle.row_reader.specs.Values.{AreElements}
 
 -- ---- a value made of its blocks
 
@@ -40,7 +42,7 @@ made f p es jet = record {
   jet = jet;
 }
 
-pub made_framed : (f : Frame) (p : Parts) (es : List Element) (jet : JetTerms Element) → IsFrame f → AreParts f p → AreRowsOf f (length p.names) (length p.names) es → IsJetOf (length p.names) f.order f.algebra jet → IsFramed f (made f p es jet)
+pub made_framed : (f : Frame) (p : Parts) (es : List Element) (jet : JetTerms Element) → IsFrame f → AreParts f p → AreElements f.algebra (length p.names * length p.names) es → IsJetOf (length p.names) f.order f.algebra jet → IsFramed f (made f p es jet)
 unfolding made
 made_framed f p es jet w hp hm hj = record {
   valid = record {
@@ -55,7 +57,7 @@ made_framed f p es jet w hp hm hj = record {
     change_order = refl;
     parts_count = hp.parts.count;
     parts = hp.parts.parts;
-    matrix_size = hm.size;
+    matrix_size = hm.count_is;
     matrix = hm.elements;
     jet = hj;
   };
@@ -64,15 +66,12 @@ made_framed f p es jet w hp hm hj = record {
   corank = refl;
 }
 
-zero_jet : (n order : ℕ) (a : Algebra) → (f : JetTerms Element) × IsJetOf n order a f
-zero_jet n order a = (record { n = n; order = order; terms = [] }, record { variables = refl; order_is = refl; rising = tt; terms = refl })
-
 pub some_framed : (f : Frame) → IsFrame f → (c : Carried) × IsFramed f c
 some_framed f w =
     let p = some_parts f w in
-    let m = some_matrix f (length p.0.names) in
-    let j = zero_jet (length p.0.names) f.order f.algebra in
-    (made f p.0 m.0 j.0, made_framed f p.0 m.0 j.0 w p.1 m.1 j.1)
+    let m = some_elements f.algebra (length p.0.names * length p.0.names) in
+    let n = length p.0.names in
+    (made f p.0 m.0 (zero_jet n f.order), made_framed f p.0 m.0 (zero_jet n f.order) w p.1 m.1 (zero_part n f.order f.algebra).jet)
 
 -- ---- behind the line `change`
 
@@ -102,7 +101,7 @@ matrix_rest word c = rows_text c.change.n c.change.n c.change.inverse ++ jet_res
 pub parts_pair : (f : Frame) (word : Word) → IsFrame f → IsPair (AreParts f) change_text (λ p c. IsFramed f c × (parts_of c ≡ p)) (matrix_rest word) (IsFramed f) (change_rest word)
 unfolding change_rest made
 parts_pair f word w = field_pair (AreParts f) change_text (IsFramed f) (change_rest word) parts_of (matrix_rest word) (λ p h. change_whole f p w h) (change_told f w)
-    (λ p h. let m = some_matrix f (length p.names) in let j = zero_jet (length p.names) f.order f.algebra in (made f p m.0 j.0, made_framed f p m.0 j.0 w h m.1 j.1, refl))
+    (λ p h. let m = some_elements f.algebra (length p.names * length p.names) in let j = zero_jet (length p.names) f.order in (made f p m.0 j, made_framed f p m.0 j w h m.1 (zero_part (length p.names) f.order f.algebra).jet, refl))
     (parts_in f) (λ c h. refl)
 
 abbrev pub HasParts : Frame → Parts → Carried → Type 0
@@ -110,14 +109,14 @@ HasParts f p c = IsFramed f c × (parts_of c ≡ p)
 
 -- the matrix, in front of the jet
 pub matrix_pair : (f : Frame) (p : Parts) (word : Word) → IsFrame f → AreParts f p
-    → IsPair (AreRowsOf f (length p.names) (length p.names)) (rows_text (length p.names) (length p.names)) (λ es c. HasParts f p c × (c.change.inverse ≡ es)) (jet_rest word) (HasParts f p) (matrix_rest word)
+    → IsPair (AreElements f.algebra (length p.names * length p.names)) (rows_text (length p.names) (length p.names)) (λ es c. HasParts f p c × (c.change.inverse ≡ es)) (jet_rest word) (HasParts f p) (matrix_rest word)
 unfolding made
-matrix_pair f p word w hp = field_pair (AreRowsOf f (length p.names) (length p.names)) (rows_text (length p.names) (length p.names)) (HasParts f p) (matrix_rest word) (λ c. c.change.inverse) (jet_rest word)
-    (λ es h. rows_whole f (length p.names) (length p.names) es h) (rows_told f (length p.names) (length p.names))
-    (λ es h. let j = zero_jet (length p.names) f.order f.algebra in (made f p es j.0, (made_framed f p es j.0 w hp h j.1, refl), refl))
+matrix_pair f p word w hp = field_pair (AreElements f.algebra (length p.names * length p.names)) (rows_text (length p.names) (length p.names)) (HasParts f p) (matrix_rest word) (λ c. c.change.inverse) (jet_rest word)
+    (λ es h. matrix_whole f (length p.names) (length p.names) es h) (rows_told f (length p.names) (length p.names))
+    (λ es h. let j = zero_jet (length p.names) f.order in (made f p es j, (made_framed f p es j w hp h (zero_part (length p.names) f.order f.algebra).jet, refl), refl))
     (λ c h.
     let names : length c.names ≡ length p.names = ap (λ (q : Parts). length q.names) h.1 in
-    record { size = h.0.valid.matrix_size ∙ ap (λ (k : ℕ). k * k) names; elements = subst (λ (a : Algebra). IsTrue (list_all (is_element a) c.change.inverse)) h.0.algebra h.0.valid.matrix })
+    record { count_is = h.0.valid.matrix_size ∙ ap (λ (k : ℕ). k * k) names; elements = subst (λ (a : Algebra). IsTrue (list_all (is_element a) c.change.inverse)) h.0.algebra h.0.valid.matrix })
     (λ c h. ap (λ (k : ℕ). rows_text k k c.change.inverse ++ jet_rest word c) (h.0.valid.change_variables ∙ ap (λ (q : Parts). length q.names) h.1))
 
 abbrev pub HasMatrix : Frame → Parts → List Element → Carried → Type 0
@@ -134,31 +133,30 @@ pub stop_in_parts : (f : Frame) (word : Word) (bytes : List ℕ) (left : ℕ) �
 stop_in_parts f word bytes left w s = pair_first (AreParts f) change_text (HasParts f) (matrix_rest word) (IsFramed f) (change_rest word) bytes left (parts_pair f word w) s
 
 pub stop_in_matrix : (f : Frame) (p : Parts) (n : ℕ) (word : Word) (bytes rest : List ℕ) (left : ℕ) → IsFrame f → n ≡ length p.names → AreParts f p → change_text p ++ rest ≡ bytes
-    → IsStop (AreRowsOf f n n) (rows_text n n) rest left → IsStop (IsFramed f) (change_rest word) bytes left
+    → IsStop (AreElements f.algebra (n * n)) (rows_text n n) rest left → IsStop (IsFramed f) (change_rest word) bytes left
 stop_in_matrix f p n word bytes rest left w size hp e s =
-    let own = subst (λ (k : ℕ). IsStop (AreRowsOf f k k) (rows_text k k) rest left) size s in
+    let own = subst (λ (k : ℕ). IsStop (AreElements f.algebra (k * k)) (rows_text k k) rest left) size s in
     pair_second (AreParts f) change_text (HasParts f) (matrix_rest word) (IsFramed f) (change_rest word) p bytes rest left (parts_pair f word w) hp e
-    (pair_first (AreRowsOf f (length p.names) (length p.names)) (rows_text (length p.names) (length p.names)) (HasMatrix f p) (jet_rest word) (HasParts f p) (matrix_rest word) rest left (matrix_pair f p word w hp) own)
+    (pair_first (AreElements f.algebra (length p.names * length p.names)) (rows_text (length p.names) (length p.names)) (HasMatrix f p) (jet_rest word) (HasParts f p) (matrix_rest word) rest left (matrix_pair f p word w hp) own)
 
-jet_stop : (f : Frame) (p : Parts) (es : List Element) (word : Word) (bytes rest last : List ℕ) → IsFrame f → AreParts f p → change_text p ++ rest ≡ bytes → AreRowsOf f (length p.names) (length p.names) es → rows_text (length p.names) (length p.names) es ++ last ≡ rest
+jet_stop : (f : Frame) (p : Parts) (es : List Element) (word : Word) (bytes rest last : List ℕ) → IsFrame f → AreParts f p → change_text p ++ rest ≡ bytes → AreElements f.algebra (length p.names * length p.names) es → rows_text (length p.names) (length p.names) es ++ last ≡ rest
     → IsNotAtFront (IsJetOf (length p.names) f.order f.algebra) (λ g. word_line word (jet_text g)) last → IsStop (IsFramed f) (change_rest word) bytes (length last)
 unfolding made
 jet_stop f p es word bytes rest last w hp e hm d none =
     let n = length p.names in
     let le = w.order_at_most in
-    let zero = zero_jet n f.order f.algebra in
     pair_second (AreParts f) change_text (HasParts f) (matrix_rest word) (IsFramed f) (change_rest word) p bytes rest (length last) (parts_pair f word w) hp e
-    (pair_second (AreRowsOf f n n) (rows_text n n) (HasMatrix f p) (jet_rest word) (HasParts f p) (matrix_rest word) es rest last (length last) (matrix_pair f p word w hp) hm d
+    (pair_second (AreElements f.algebra (n * n)) (rows_text n n) (HasMatrix f p) (jet_rest word) (HasParts f p) (matrix_rest word) es rest last (length last) (matrix_pair f p word w hp) hm d
     (stop_before (IsJetOf n f.order f.algebra) (λ g. word_line word (jet_text g)) (HasMatrix f p es) (jet_rest word) last (length last)
     (λ g h. (made f p es g, ((made_framed f p es g w hp hm h, refl), refl), ([], sym (append-nil (word_line word (jet_text g))))))
     (λ c h. (c.jet, jet_in f p c h.0, ([], sym (append-nil (word_line word (jet_text c.jet))))))
-    (line_stop (IsJetOf n f.order f.algebra) (λ g. word_line word (jet_text g)) last zero.0 zero.1
-    (λ g h. line-word_line word (jet_text g) (shows-clean (jet_text g) (shows-jet n f.order f.algebra g (omega (arith, le)) h))) none)))
+    (line_stop (IsJetOf n f.order f.algebra) (λ g. word_line word (jet_text g)) last (zero_jet n f.order) (zero_part n f.order f.algebra).jet
+    (λ g h. line-word_line word (jet_text g) (jet_clean n f.order f.algebra le g h)) none)))
 
-pub stop_at_jet : (f : Frame) (p : Parts) (n : ℕ) (es : List Element) (word : Word) (bytes rest last : List ℕ) → IsFrame f → n ≡ length p.names → AreParts f p → change_text p ++ rest ≡ bytes → AreRowsOf f n n es → rows_text n n es ++ last ≡ rest
+pub stop_at_jet : (f : Frame) (p : Parts) (n : ℕ) (es : List Element) (word : Word) (bytes rest last : List ℕ) → IsFrame f → n ≡ length p.names → AreParts f p → change_text p ++ rest ≡ bytes → AreElements f.algebra (n * n) es → rows_text n n es ++ last ≡ rest
     → IsNotAtFront (IsJetOf n f.order f.algebra) (λ g. word_line word (jet_text g)) last → IsStop (IsFramed f) (change_rest word) bytes (length last)
 stop_at_jet f p n es word bytes rest last w size hp e hm d none =
-    jet_stop f p es word bytes rest last w hp e (subst (λ (k : ℕ). AreRowsOf f k k es) size hm) (ap (λ (k : ℕ). rows_text k k es ++ last) (sym size) ∙ d) (subst (λ (k : ℕ). IsNotAtFront (IsJetOf k f.order f.algebra) (λ g. word_line word (jet_text g)) last) size none)
+    jet_stop f p es word bytes rest last w hp e (subst (λ (k : ℕ). AreElements f.algebra (k * k) es) size hm) (ap (λ (k : ℕ). rows_text k k es ++ last) (sym size) ∙ d) (subst (λ (k : ℕ). IsNotAtFront (IsJetOf k f.order f.algebra) (λ g. word_line word (jet_text g)) last) size none)
 
 -- the three blocks
 pub change_read : (f : Frame) (p : Parts) (es : List Element) (jet : JetTerms Element) (word : Word) (bytes rest last end : List ℕ) → change_text p ++ rest ≡ bytes → rows_text (length p.names) (length p.names) es ++ last ≡ rest → word_line word (jet_text jet) ++ end ≡ last
@@ -169,10 +167,10 @@ change_read f p es jet word bytes rest last end a b c =
     (append_assoc (rows_text (length p.names) (length p.names) es) (word_line word (jet_text jet)) end ∙ ap (λ (z : List ℕ). rows_text (length p.names) (length p.names) es ++ z) c ∙ b) ∙ a
 
 pub change_done : (f : Frame) (p : Parts) (n : ℕ) (es : List Element) (jet : JetTerms Element) (c : Carried) (word : Word) (bytes rest last end : List ℕ) → IsFrame f → n ≡ length p.names → c ≡ made f p es jet
-    → AreParts f p → change_text p ++ rest ≡ bytes → AreRowsOf f n n es → rows_text n n es ++ last ≡ rest → IsJetOf n f.order f.algebra jet → word_line word (jet_text jet) ++ end ≡ last
+    → AreParts f p → change_text p ++ rest ≡ bytes → AreElements f.algebra (n * n) es → rows_text n n es ++ last ≡ rest → IsJetOf n f.order f.algebra jet → word_line word (jet_text jet) ++ end ≡ last
     → IsFramed f c × (change_rest word c ++ end ≡ bytes)
 change_done f p n es jet c word bytes rest last end w size same hp a hm b hj d = (
-  subst (IsFramed f) (sym same) (made_framed f p es jet w hp (subst (λ (k : ℕ). AreRowsOf f k k es) size hm) (subst (λ (k : ℕ). IsJetOf k f.order f.algebra jet) size hj)),
+  subst (IsFramed f) (sym same) (made_framed f p es jet w hp (subst (λ (k : ℕ). AreElements f.algebra (k * k) es) size hm) (subst (λ (k : ℕ). IsJetOf k f.order f.algebra jet) size hj)),
   ap (λ (z : Carried). change_rest word z ++ end) same ∙ change_read f p es jet word bytes rest last end a (ap (λ (k : ℕ). rows_text k k es ++ last) (sym size) ∙ b) d,
 )
 
@@ -201,7 +199,7 @@ abbrev HasCorank : ℕ → Algebra → ℕ → Carried → Type 0
 HasCorank k a r c = HasAlgebra k a c × (c.corank ≡ r)
 
 algebra_is_line : (a : Algebra) → IsTrue (is_algebra a) → IsLine (word_line words.Algebra (algebra_text a))
-algebra_is_line a h = line-word_line words.Algebra (algebra_text a) (shows-clean (algebra_text a) (shows-algebra a h))
+algebra_is_line a h = line-word_line words.Algebra (algebra_text a) (algebra_clean a h)
 
 frame_of : ℕ → Algebra → ℕ → Frame
 frame_of k a r = record { order = k; algebra = a; corank = r }
@@ -312,6 +310,9 @@ carried_read word f c bytes three four end r e h d = (
       ∙ ap (λ (k : ℕ). word_line words.Order (decimal k) ++ r.one) h.order ∙ r.order_line,
 )
 
+pub carried_told : (word : Word) → IsSelfEnding IsWellFormedCarried (carried_text word)
+carried_told word = record { one = λ a b x y oa ob e. carried_one word a b x y oa ob e }
+
 pub carried_whole : (word : Word) (c : Carried) → IsWellFormedCarried c → IsWholeLines (carried_text word c)
 unfolding rest1 rest2 rest3 change_rest
 carried_whole word c h =
@@ -322,9 +323,9 @@ carried_whole word c h =
     let is : IsFramed f c = record { valid = h; order = refl; algebra = refl; corank = refl } in
     let parts = parts_in f c is in
     let low = h.order_at_most in
-    let jet = whole-line (word_line word (jet_text c.jet)) (line-word_line word (jet_text c.jet) (shows-clean (jet_text c.jet) (shows-jet (length c.names) c.order c.algebra c.jet (omega (arith, low)) h.jet))) in
+    let jet = whole-line (word_line word (jet_text c.jet)) (line-word_line word (jet_text c.jet) (jet_clean (length c.names) c.order c.algebra low c.jet h.jet)) in
     let size : length c.change.inverse ≡ c.change.n * c.change.n = h.matrix_size ∙ sym (ap (λ (k : ℕ). k * k) h.change_variables) in
-    let matrix = whole-append (rows_text c.change.n c.change.n c.change.inverse) (word_line word (jet_text c.jet)) (rows_whole f c.change.n c.change.n c.change.inverse (record { size = size; elements = h.matrix })) jet in
+    let matrix = whole-append (rows_text c.change.n c.change.n c.change.inverse) (word_line word (jet_text c.jet)) (matrix_whole f c.change.n c.change.n c.change.inverse (record { count_is = size; elements = h.matrix })) jet in
     let change = whole-append (change_text (parts_of c)) (rows_text c.change.n c.change.n c.change.inverse ++ word_line word (jet_text c.jet)) (change_whole f (parts_of c) w parts) matrix in
     let three = whole-append (line (word_text words.Change)) (change_rest word c) (whole-line (line (word_text words.Change)) (line-word words.Change)) change in
     let two = whole-append (word_line words.Corank (decimal c.corank)) (rest3 word c) (whole-line (word_line words.Corank (decimal c.corank)) (number_is_line words.Corank 0 8 (lit< tt) c.corank (omega arith, omega (arith, le, few)))) three in

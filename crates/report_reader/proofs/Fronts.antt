@@ -1,6 +1,6 @@
 -- Texts that stand at the front of bytes: words, lines, and values in a line.
 use Rattle.std.proofs.Common.{◌≡◌, ℕ, ◌<◌, ◌^◌, List, [], ◌∷◌, ◌++◌, refl, sym, ap, ◌∙◌, subst, append_assoc, arith}
-use Rattle.std.specs.List.{AllByRecursion}
+use Rattle.std.specs.List.{AllByRecursion, flat_map}
 use Rattle.std.specs.Prelude.{decimal}
 use Rattle.cert_text.specs.declared.word.Word.{Word}
 use Rattle.cert_text.specs.declared.word.Word.TheVariants as words
@@ -13,6 +13,7 @@ use Rattle.text_reader.proofs.Fractions.{decimal_same}
 use Rattle.report_reader.specs.Lines.{IsClean, IsWithin}
 use Rattle.report_reader.specs.Blocks.{IsNotAtFront}
 use Rattle.report_reader.proofs.Stops.{IsLine}
+use Rattle.normal_forms.proofs.FormTerms.{all-append}
 
 -- a line, and what stands behind it
 pub line_text : (w more : List ℕ) → line w ++ more ≡ w ++ 10 ∷ more
@@ -28,37 +29,14 @@ word_line_text w t more = simp append_assoc
 pub word_clean : (w : Word) → IsClean (word_text w)
 unfolding word_text
 word_clean words.Germ = omega arith
-word_clean words.Long = omega arith
-word_clean words.TooLong = omega arith
-word_clean words.Syntax = omega arith
-word_clean words.Literal = omega arith
-word_clean words.NotCritical = omega arith
-word_clean words.Range = omega arith
-word_clean words.Field = omega arith
-word_clean words.Unbuilt = omega arith
-word_clean words.Named = omega arith
-word_clean words.Outside = omega arith
-word_clean words.Limit = omega arith
-word_clean words.Unresolved = omega arith
-word_clean words.Order = omega arith
-word_clean words.Algebra = omega arith
-word_clean words.Corank = omega arith
-word_clean words.Change = omega arith
-word_clean words.Inverse = omega arith
-word_clean words.Form = omega arith
-word_clean words.Jet = omega arith
-word_clean words.Units = omega arith
-word_clean words.Modulus = omega arith
-word_clean words.Milnor = omega arith
-word_clean words.Mather = omega arith
-word_clean words.Basis = omega arith
-word_clean words.Table = omega arith
-word_clean words.Functional = omega arith
-word_clean words.End = omega arith
+word_clean _ = omega arith
 
 pub clean-append : (a b : List ℕ) → IsClean a → IsClean b → IsClean (a ++ b)
-clean-append [] b ca cb = cb
-clean-append (x ∷ a) b ca cb = (ca.0, clean-append a b ca.1 cb)
+clean-append a b ca cb = all-append (λ b. b ≡ 10 → ⊥) a b ca cb
+
+pub clean-flat_map : {A : Type 0} (P : A → Type 0) (text : A → List ℕ) → ((x : A) → P x → IsClean (text x)) → (xs : List A) → AllByRecursion P xs → IsClean (flat_map text xs)
+clean-flat_map P text each [] h = tt
+clean-flat_map P text each (x ∷ xs) h = clean-append (text x) (flat_map text xs) (each x h.0) (clean-flat_map P text each xs h.1)
 
 -- a clean text makes one line
 pub line-line : (w : List ℕ) → IsClean w → IsLine (line w)

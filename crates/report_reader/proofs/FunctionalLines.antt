@@ -4,8 +4,8 @@ use Rattle.std.specs.Prelude.{decimal, not, sum}
 use Rattle.std.specs.List.{AllByRecursion, flat_map, list_all}
 use Rattle.std.proofs.lemmas.Bool.{eq-eqb, eqb-true, le-leb, leb-false, leb-true}
 use Rattle.std.proofs.lemmas.List.{get_or-map}
-use Rattle.std.proofs.lemmas.List.Concat.{flat_map-append}
 use Rattle.std.proofs.Math.Seq.{drop-append_seam, take-append_seam}
+use Rattle.std.specs.Cmp.Derive.{both_true}
 use Rattle.ring_theory.specs.Gcd.{gcd}
 use Rattle.ring_law.specs.declared.fraction.Frac.{Frac}
 use Rattle.ext_algebra.specs.declared.algebra.Algebra.{Algebra}
@@ -18,30 +18,32 @@ use Rattle.mono_exp.proofs.Counting.{below_are_long, count_below, count-le, plac
 use Rattle.mono_exp.proofs.Lists.{each-at, get_or-numbers_below, sum-cons}
 use Rattle.mono_exp.proofs.NumberLemmas.{exponents-take, length-exponents, sum-exponents}
 use Rattle.mono_exp.proofs.OrderLaws.{ranks-rise}
-use Rattle.mono_exp.proofs.Table.{count-small, length-monomials_below, table_counts}
+use Rattle.mono_exp.proofs.Table.{count-small, length-monomials_below}
 use Rattle.jacobian_row.proofs.NumberLemmas.{before_in}
 use Rattle.jet_poly.specs.JetTerms.{AllAfter, IsRising}
 use Rattle.jet_poly.proofs.Output.{before-rank}
 use Rattle.poly_text.specs.Numbers.{element_text}
 use Rattle.poly_text.specs.Polynomials.{monomial_text}
 use Rattle.cert_text.specs.declared.word.Word.TheVariants as words
-use Rattle.cert_text.specs.Text.{functional_text, line, word_line}
+use Rattle.cert_text.specs.Text.{functional_text, line, word_line, functional_inside}
 use Rattle.cert_text.specs.WellFormed.{is_monomial_in, is_zero_element, list_limit}
 use Rattle.cert_law.specs.Unique.{IsSelfEnding}
 use Rattle.cert_law.specs.Fields.{IsValue}
-use Rattle.cert_law.proofs.Reporting.{functional_head}
+use Rattle.cert_law.proofs.Reporting.{functional_head, low_monomial, value_by}
 use Rattle.cert_law.proofs.Series.{functional_line}
-use Rattle.cert_law.proofs.Valid.{all_to, both, element_by}
+use Rattle.cert_law.proofs.Valid.{all_to, both}
 use Rattle.text_reader.specs.Reading.{IsNoText}
 use Rattle.text_reader.proofs.Visible.{digits_lack}
-use Rattle.row_reader.specs.Values.{IsFunctionalValue, IsResidual, functional_inside}
+use Rattle.text_reader.specs.Terms.{one_monomial}
+use Rattle.row_reader.specs.Values.{IsFunctionalValue, IsResidual}
+use Rattle.row_reader.proofs.ValueTexts.{functional_valid}
 use Rattle.report_reader.specs.Blocks.{IsNotAtFront, IsStop}
 use Rattle.report_reader.specs.Functional.{AreFrom, IsFunctional, IsHead, IsLater, Term, functional_lines, head_line, number_limit, number_of}
 use Rattle.report_reader.specs.Lines.{IsClean, IsCounted, counted_monomial_text}
-use Rattle.report_reader.proofs.EvidenceLines.{and_true, one_monomial, one_residual, residual_is}
+use Rattle.report_reader.proofs.EvidenceLines.{one_residual}
 use Rattle.report_reader.proofs.Fronts.{clean-append, line-line, line-word_line}
 use Rattle.report_reader.proofs.RowLines.{line_stop}
-use Rattle.report_reader.proofs.Shown.{shows-clean, shows-element, shows-monomial}
+use Rattle.report_reader.proofs.CleanTexts.{monomial_clean, element_clean}
 use Rattle.report_reader.proofs.Stops.{IsApart, IsLine, IsPair, pair_first, pair_second, stop_behind, stop_here, whole-line}
 
 -- ---- how many residual monomials there are
@@ -49,35 +51,8 @@ use Rattle.report_reader.proofs.Stops.{IsApart, IsLine, IsPair, pair_first, pair
 limit_is : (n : ℕ) → number_limit n ≡ count_below n 18
 limit_is n = length-monomials_below n 18
 
-pub limit0 : 1 ≡ number_limit 0
-limit0 = table_counts 0 18 (omega arith) (omega arith) ∙ sym (limit_is 0)
-
-pub limit1 : 18 ≡ number_limit 1
-limit1 = table_counts 1 18 (omega arith) (omega arith) ∙ sym (limit_is 1)
-
-pub limit2 : 171 ≡ number_limit 2
-limit2 = table_counts 2 18 (omega arith) (omega arith) ∙ sym (limit_is 2)
-
-pub limit3 : 1140 ≡ number_limit 3
-limit3 = table_counts 3 18 (omega arith) (omega arith) ∙ sym (limit_is 3)
-
-pub limit4 : 5985 ≡ number_limit 4
-limit4 = table_counts 4 18 (omega arith) (omega arith) ∙ sym (limit_is 4)
-
-pub limit5 : 26334 ≡ number_limit 5
-limit5 = table_counts 5 18 (omega arith) (omega arith) ∙ sym (limit_is 5)
-
-pub limit6 : 100947 ≡ number_limit 6
-limit6 = table_counts 6 18 (omega arith) (omega arith) ∙ sym (limit_is 6)
-
-pub limit7 : 346104 ≡ number_limit 7
-limit7 = table_counts 7 18 (omega arith) (omega arith) ∙ sym (limit_is 7)
-
-pub limit8 : 1081575 ≡ number_limit 8
-limit8 = table_counts 8 18 (omega arith) (omega arith) ∙ sym (limit_is 8)
-
-pub limit_there : (k n m : ℕ) → n ≡ m → k ≡ number_limit m → k ≡ number_limit n
-limit_there k n m e h = h ∙ ap number_limit (sym e)
+pub limit_there : (k n m : ℕ) → n ≡ m → k ≡ count_below m 18 → k ≡ number_limit n
+limit_there k n m e h = h ∙ sym (limit_is m) ∙ ap number_limit (sym e)
 
 -- ---- residual monomials by their numbers
 
@@ -163,7 +138,7 @@ padded_residual n x le size low =
     let behind : drop n e ≡ zeros_list (8 - n) = subst (λ k. drop k e ≡ zeros_list (8 - n)) size (drop-append_seam x (zeros_list (8 - n))) in
     let all : list_all (λ x. eqb x 0) (drop n e) ≡ true = ap (list_all (λ x. eqb x 0)) behind ∙ zeros_all (8 - n) in
     let total : sum e ≤ 17 = (let a = sum_append x (zeros_list (8 - n)) in let b = zeros_sum (8 - n) in omega (arith, a, b, low)) in
-    and_true (eqb (length e) 8 && list_all (λ x. eqb x 0) (drop n e)) (leb (sum e) 17) (and_true (eqb (length e) 8) (list_all (λ x. eqb x 0) (drop n e)) (eq-eqb (length e) 8 long) all) (le-leb (sum e) 17 total)
+    both_true (both_true (eq-eqb (length e) 8 long) all) (le-leb (sum e) 17 total)
 
 padded_number : (n : ℕ) (x : List ℕ) → n ≤ 8 → length x ≡ n → number_of n (padded n x) ≡ place x
 unfolding padded
@@ -204,10 +179,10 @@ one_valid (algebras.Quadratic m1 m0) = refl
 one_valid (algebras.Cubic m2 m1 m0) = refl
 
 one_value : (a : Algebra) (n : ℕ) (m : Exp) → IsResidual n m → IsFunctionalValue a n (m, one_element)
-one_value a n m h = and_true (is_monomial_in n m && leb (sum m.e) 17) (is_element a one_element && not (is_zero_element one_element)) h (one_valid a)
+one_value a n m h = both_true h (one_valid a)
 
 pub value_residual : (a : Algebra) (n : ℕ) (v : Term) → IsFunctionalValue a n v → IsResidual n v.0
-value_residual a n v h = (both (is_monomial_in n v.0 && leb (sum v.0.e) 17) (is_element a v.1 && not (is_zero_element v.1)) h).0
+value_residual a n v h = (functional_valid a n v h).0
 
 -- where there is room, there are values
 pub fill : (a : Algebra) (n low k : ℕ) → n ≤ 8 → low + k ≤ number_limit n → (vs : List Term) × AreFrom a n low k vs
@@ -259,15 +234,10 @@ done_all a n low (suc k) (v ∷ vs) next d size = (d.0.value, d.0.later, done_al
 
 -- ---- lines
 
-value_is : (a : Algebra) (n : ℕ) (v : Term) → IsFunctionalValue a n v → IsValue v
-value_is a n v h =
-    let p = both (is_monomial_in n v.0 && leb (sum v.0.e) 17) (is_element a v.1 && not (is_zero_element v.1)) h in
-    record { monomial = residual_is n v.0 p.0; value = element_by a v.1 (both (is_element a v.1) (not (is_zero_element v.1)) p.1).0 }
-
 pub value_clean : (a : Algebra) (n : ℕ) (v : Term) → IsFunctionalValue a n v → IsClean (functional_inside v)
 value_clean a n v h =
-    let is = value_is a n v h in
-    clean-append (monomial_text v.0) (32 ∷ element_text v.1) (shows-clean (monomial_text v.0) (shows-monomial v.0 is.monomial)) ((λ e. omega (arith, e)), shows-clean (element_text v.1) (shows-element v.1 is.value))
+    let p = functional_valid a n v h in
+    clean-append (monomial_text v.0) (32 ∷ element_text v.1) (monomial_clean n v.0 p.0) ((λ e. omega (arith, e)), element_clean a v.1 p.1)
 
 value_is_line : (a : Algebra) (n : ℕ) (v : Term) → IsFunctionalValue a n v → IsLine (functional_text v)
 unfolding functional_text
@@ -279,7 +249,7 @@ inside_text v = refl
 
 -- two values of one text are one
 pub value_same : (a : Algebra) (n : ℕ) (u v : Term) → IsFunctionalValue a n u → IsFunctionalValue a n v → functional_inside u ≡ functional_inside v → u ≡ v
-value_same a n u v hu hv e = (functional_line.one u v [] [] (value_is a n u hu) (value_is a n v hv) (ap (λ z. z ++ []) (inside_text u ∙ ap line e ∙ sym (inside_text v)))).0
+value_same a n u v hu hv e = (functional_line.one u v [] [] (value_by a n u hu) (value_by a n v hv) (ap (λ z. z ++ []) (inside_text u ∙ ap line e ∙ sym (inside_text v)))).0
 
 -- the next value is not at the front: none, or one without room
 pub no_value : (a : Algebra) (n low left : ℕ) (text : List ℕ) → IsNoText (IsFunctionalValue a n) functional_inside text → IsNoText (IsLater a n low left) functional_inside text
@@ -314,7 +284,7 @@ values_stop a n low (suc k) left (v ∷ done) next bytes rest le d size lt e non
     out : (vs : List Term) (x y : List ℕ) → AreFrom a n low (suc k) vs → flat_map functional_text vs ++ x ≡ functional_text v ++ y → (us : List Term) × AreFrom a n (suc (number_of n v.0)) k us × (flat_map functional_text vs ≡ functional_text v ++ flat_map functional_text us)
     out [] x y is f = absurd is
     out (u ∷ vs) x y is f =
-        let h = functional_line.one u v (flat_map functional_text vs ++ x) y (value_is a n u is.0) (value_is a n v d.0.value) (sym (append_assoc (functional_text u) (flat_map functional_text vs) x) ∙ f) in
+        let h = functional_line.one u v (flat_map functional_text vs ++ x) y (value_by a n u is.0) (value_by a n v d.0.value) (sym (append_assoc (functional_text u) (flat_map functional_text vs) x) ∙ f) in
         (vs, subst (λ (w : Term). AreFrom a n (suc (number_of n w.0)) k vs) h.0 is.2, ap (λ (w : Term). functional_text w ++ flat_map functional_text vs) h.0)
 
 -- ---- rising values
@@ -367,20 +337,17 @@ from_start n (v ∷ vs) = (omega arith, from_start n vs)
 
 -- ---- the head, and the values behind it
 
-head_clean : (n : ℕ) (h : Exp × ℕ) → IsHead n h → IsClean (counted_monomial_text h)
+pub head_clean : (n : ℕ) (h : Exp × ℕ) → IsHead n h → IsClean (counted_monomial_text h)
 head_clean n h is =
     let few = is.few in
-    clean-append (monomial_text h.0) (32 ∷ decimal h.1) (shows-clean (monomial_text h.0) (shows-monomial h.0 (residual_is n h.0 is.monomial))) ((λ e. omega (arith, e)), digits_lack 10 h.1 (omega arith) (omega (arith, few)))
-
-pub heads_clean : (n : ℕ) → (h : Exp × ℕ) → IsHead n h → IsClean (counted_monomial_text h)
-heads_clean n h is = head_clean n h is
+    clean-append (monomial_text h.0) (32 ∷ decimal h.1) (monomial_clean n h.0 is.monomial) ((λ e. omega (arith, e)), digits_lack 10 h.1 (omega arith) (omega (arith, few)))
 
 head_is_line : (n : ℕ) (h : Exp × ℕ) → IsHead n h → IsLine (head_line h)
 head_is_line n h is = line-word_line words.Functional (counted_monomial_text h) (head_clean n h is)
 
 head_same : (n : ℕ) (g h : Exp × ℕ) → IsResidual n g.0 → g.1 < 2 ^ 64 → IsResidual n h.0 → h.1 < 2 ^ 64 → (x y : List ℕ) → head_line g ++ x ≡ head_line h ++ y → (g ≡ h) × (x ≡ y)
 head_same n g h rg lg rh lh x y e =
-    let k = functional_head g.0 h.0 g.1 h.1 x y (residual_is n g.0 rg) (residual_is n h.0 rh) (omega (arith, lg)) (omega (arith, lh)) e in
+    let k = functional_head g.0 h.0 g.1 h.1 x y (low_monomial n g.0 rg) (low_monomial n h.0 rh) (omega (arith, lg)) (omega (arith, lh)) e in
     ((λ i. (k.0 i, k.1 i)), k.2)
 
 pub head_told : (n : ℕ) → IsSelfEnding (IsHead n) head_line
@@ -430,13 +397,6 @@ functional_read a n h vs bytes rest end le is e from d =
       record { at = is.monomial; few = omega (arith, few, size); rising = from_rising a n 0 h.1 vs le from; values = from_values a n 0 h.1 vs from },
       append_assoc (head_line (h.0, length vs)) (flat_map functional_text vs) end ∙ ap (λ z. head_line (h.0, length vs) ++ z) d ∙ ap (λ (k : ℕ). head_line (h.0, k) ++ rest) size ∙ e,
     )
-
-flat_push : (vs : List Term) (v : Term) → flat_map functional_text (vs ++ v ∷ []) ≡ flat_map functional_text vs ++ functional_text v
-flat_push vs v = flat_map-append functional_text vs (v ∷ []) ∙ ap (λ z. flat_map functional_text vs ++ z) (append-nil (functional_text v))
-
--- one more value
-pub pushed_text : (vs : List Term) (v : Term) (rest after bytes : List ℕ) → flat_map functional_text vs ++ rest ≡ bytes → functional_text v ++ after ≡ rest → flat_map functional_text (vs ++ v ∷ []) ++ after ≡ bytes
-pushed_text vs v rest after bytes e f = ap (λ z. z ++ after) (flat_push vs v) ∙ append_assoc (flat_map functional_text vs) (functional_text v) after ∙ ap (λ z. flat_map functional_text vs ++ z) f ∙ e
 
 -- numbers are small
 pub number_fits : (n : ℕ) (m : Exp) → n ≤ 8 → IsResidual n m → number_of n m < 1081575

@@ -1,7 +1,6 @@
 pub mod Stops
 pub mod Fronts
-pub mod Shown
-pub mod Words
+pub mod CleanTexts
 pub mod PartLines
 pub mod Found
 pub mod RowLines

@@ -1,23 +1,21 @@
 -- The lines of a limit report: the germ in new variables, and the functional.
 use Rattle.std.proofs.Common.{◌≡◌, ℕ, ◌&&◌, List, [], ◌++◌, refl, sym, ap, ◌∙◌, subst, append_assoc, append-nil, arith}
-use Rattle.std.specs.Prelude.{not}
-use Rattle.ext_algebra.specs.Algebra.{is_element}
 use Rattle.mono_exp.specs.declared.exponent.Exp.{Exp}
 use Rattle.cert_text.specs.declared.report.Carried.{Carried}
 use Rattle.cert_text.specs.declared.report.Limit as limit_type
 use Rattle.cert_text.specs.declared.word.Word.TheVariants as words
 use Rattle.cert_text.specs.Text.{carried_text}
-use Rattle.cert_text.specs.WellFormed.{IsWellFormedCarried, IsWellFormedLimit, is_residual_monomial, is_zero_element}
+use Rattle.cert_text.specs.WellFormed.{IsWellFormedCarried, IsWellFormedLimit, is_functional_value}
 use Rattle.cert_law.specs.Fields.{Term}
-use Rattle.cert_law.proofs.Carrying.{carried_one}
 use Rattle.report_reader.specs.Blocks.{IsStop}
 use Rattle.report_reader.specs.Functional.{IsFunctional, functional_lines}
 use Rattle.report_reader.specs.Answers.{limit_rest}
 use Rattle.report_reader.proofs.Stops.{IsPair, stop_before, pair_first, pair_second}
 use Rattle.report_reader.proofs.RowLines.{field_pair}
-use Rattle.report_reader.proofs.CarriedLines.{carried_whole}
-use Rattle.report_reader.proofs.EvidenceLines.{one_monomial, one_residual}
-use Rattle.report_reader.proofs.NamedLines.{tests_of, of_tests}
+use Rattle.report_reader.proofs.CarriedLines.{carried_whole, carried_told}
+use Rattle.report_reader.proofs.EvidenceLines.{one_residual}
+use Rattle.row_reader.proofs.ValueTexts.{all_list, list_each}
+use Rattle.text_reader.specs.Terms.{one_monomial}
 
 abbrev pub FunctionalOf : Carried → Exp × List Term → Type 0
 FunctionalOf c f = IsFunctional c.algebra c.corank f
@@ -34,7 +32,7 @@ limit_made c f w h = record {
   at = h.at;
   few = h.few;
   rising = h.rising;
-  functional = tests_of (λ v. is_residual_monomial c v.0 && (is_element c.algebra v.1 && not (is_zero_element v.1))) f.1 h.values;
+  functional = all_list (is_functional_value c.algebra c.corank) f.1 h.values;
 }
 
 functional_in : (r : limit_type.Limit) → IsWellFormedLimit r → FunctionalOf r.carried (r.at, r.functional)
@@ -42,13 +40,13 @@ functional_in r h = record {
   at = h.at;
   few = h.few;
   rising = h.rising;
-  values = of_tests (λ v. is_residual_monomial r.carried v.0 && (is_element r.carried.algebra v.1 && not (is_zero_element v.1))) r.functional h.functional;
+  values = list_each (is_functional_value r.carried.algebra r.carried.corank) r.functional h.functional;
 }
 
 limit_pair : IsPair IsWellFormedCarried (carried_text words.Jet) (λ c r. IsWellFormedLimit r × (r.carried ≡ c)) functional_rest IsWellFormedLimit limit_rest
 unfolding limit_rest
 limit_pair = field_pair IsWellFormedCarried (carried_text words.Jet) IsWellFormedLimit limit_rest (λ r. r.carried) functional_rest
-    (carried_whole words.Jet) (record { one = λ a b x y oa ob e. carried_one words.Jet a b x y oa ob e })
+    (carried_whole words.Jet) (carried_told words.Jet)
     (λ c h. (record { carried = c; at = one_monomial; functional = [] }, limit_made c (one_monomial, []) h (record { at = one_residual c.corank; few = omega arith; rising = tt; values = tt }), refl))
     (λ r h. h.carried) (λ r h. refl)
 

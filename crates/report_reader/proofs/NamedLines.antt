@@ -2,6 +2,7 @@
 use Rattle.std.proofs.Common.{◌≡◌, ℕ, zero, suc, ◌<◌, ◌≤◌, ◌^◌, Bool, true, ◌&&◌, List, [], ◌∷◌, ◌++◌, length, refl, sym, ap, ◌∙◌, subst, append_assoc, append-nil, inl, arith, lit<}
 use Rattle.std.specs.Prelude.{decimal, IsTrue, codes, sum, nat_le}
 use Rattle.std.specs.List.{AllByRecursion, flat_map, list_all}
+use Rattle.std.specs.Cmp.Derive.{both_true}
 use Rattle.ext_algebra.specs.declared.algebra.Algebra.{Algebra}
 use Rattle.ext_algebra.specs.Algebra.{is_element}
 use Rattle.mono_exp.specs.declared.exponent.Exp.{Exp}
@@ -17,29 +18,29 @@ use Rattle.cert_text.specs.declared.report.Unresolved as unresolved_type
 use Rattle.cert_text.specs.declared.word.Word.{Word}
 use Rattle.cert_text.specs.declared.word.Word.TheVariants as words
 use Rattle.cert_text.specs.Words.{word_text}
-use Rattle.cert_text.specs.Text.{word_line, carried_text, unit_text, modulus_text, mather_text, table_text}
+use Rattle.cert_text.specs.Text.{word_line, carried_text, unit_text, modulus_text, mather_text, table_text, basis_inside, monomials_text}
 use Rattle.cert_text.specs.BadText.{IsWholeLines}
-use Rattle.cert_text.specs.WellFormed.{IsWellFormedCarried, IsWellFormedUnresolved, IsWellFormedRow, IsWellFormedTableRow, AreRows, is_valid_modulus, is_monomial_in}
+use Rattle.cert_text.specs.WellFormed.{IsWellFormedCarried, IsWellFormedUnresolved, AreRows, is_valid_modulus, is_monomial_in, IsRowOf, IsTableRowOf, IsFamily, is_low_monomial, is_unit_pair}
 use Rattle.cert_law.specs.Unique.{IsSelfEnding}
 use Rattle.cert_law.specs.Fields.{Element, UnitPair, IsMonomial}
-use Rattle.cert_law.proofs.Valid.{all_from, all_to}
-use Rattle.cert_law.proofs.Carrying.{block_one, carried_one}
+use Rattle.cert_law.proofs.Valid.{all_from}
+use Rattle.cert_law.proofs.Carrying.{block_one}
 use Rattle.cert_law.proofs.Reporting as reporting
-use Rattle.row_reader.specs.Values.{IsUnitPair, AreResidual, basis_inside}
-use Rattle.row_reader.specs.Rows.{IsRowOf, IsTableRowOf}
+use Rattle.row_reader.specs.Values.{IsUnitPair, AreResidual, IsResidual}
+use Rattle.row_reader.proofs.ValueTexts.{all_list, list_each}
 use Rattle.report_reader.specs.declared.named.Front.{Front}
-use Rattle.report_reader.specs.Lines.{IsClean, IsWithin, IsFamily}
+use Rattle.report_reader.specs.Lines.{IsClean, IsWithin}
 use Rattle.report_reader.specs.Blocks.{IsStop, IsNotAtFront}
 use Rattle.report_reader.specs.Rows.{AreAtMost, counted_text, most_rows}
 use Rattle.report_reader.specs.States.{IsFrame}
 use Rattle.report_reader.specs.Evidence.{frame_of, IsBasis, basis_line, IsFront, IsNamedAs, IsOfFamily, table_rest, basis_rest, mather_rest, milnor_rest, modulus_rest, units_rest, named_rest, unresolved_rest}
-use Rattle.report_reader.proofs.Fronts.{clean-append, line-line, line-word_line, line_front}
-use Rattle.report_reader.proofs.Shown.{shows-clean, shows-monomial}
-use Rattle.report_reader.proofs.Words.{modulus_clean}
+use Rattle.report_reader.proofs.Fronts.{clean-append, line-line, line-word_line, line_front, word_clean, clean-flat_map}
+use Rattle.report_reader.proofs.CleanTexts.{modulus_clean, monomial_clean}
 use Rattle.report_reader.proofs.Stops.{IsLine, IsPair, stop_before, pair_first, pair_second, whole-append, whole-line}
-use Rattle.report_reader.proofs.RowLines.{field_pair, line_stop, numbers_told, number_is_line}
-use Rattle.report_reader.proofs.CarriedLines.{carried_whole}
-use Rattle.report_reader.proofs.EvidenceLines.{and_true, residual_is, one_monomial, one_residual, unit_told, unit_is_line, mather_told, mather_is_line, most_at_most, most_small}
+use Rattle.report_reader.proofs.RowLines.{field_pair, line_stop, numbers_told, number_is_line, rows_whole}
+use Rattle.report_reader.proofs.CarriedLines.{carried_whole, carried_told}
+use Rattle.report_reader.proofs.EvidenceLines.{one_residual, unit_told, unit_is_line, mather_told, mather_is_line, most_at_most, most_small}
+use Rattle.text_reader.specs.Terms.{one_monomial}
 
 -- ---- rows with their count are told from their lines
 
@@ -52,10 +53,6 @@ counted_told w most valid text lt told = record {
       (sym (append_assoc (word_line w (decimal (length us))) (flat_map text us) x) ∙ e ∙ append_assoc (word_line w (decimal (length vs))) (flat_map text vs) y);
 }
 
-rows_whole : {A : Type 0} (valid : A → Type 0) (text : A → List ℕ) → ((a : A) → valid a → IsLine (text a)) → (xs : List A) → AllByRecursion valid xs → IsWholeLines (flat_map text xs)
-rows_whole valid text lines [] h = inl refl
-rows_whole valid text lines (x ∷ xs) h = whole-append (text x) (flat_map text xs) (whole-line (text x) (lines x h.0)) (rows_whole valid text lines xs h.1)
-
 pub counted_whole : {A : Type 0} (w : Word) (most : ℕ) (valid : A → Type 0) (text : A → List ℕ) → most < 2 ^ 64 → ((a : A) → valid a → IsLine (text a)) → (xs : List A) → AreAtMost valid most xs → IsWholeLines (counted_text w text xs)
 counted_whole w most valid text lt lines xs h =
     let le = h.0 in
@@ -64,56 +61,34 @@ counted_whole w most valid text lt lines xs h =
 -- ---- the basis
 
 all_residual : (corank : ℕ) (ms : List Exp) → AreResidual corank ms → AllByRecursion IsMonomial ms
-all_residual corank ms h = all_from (λ m. is_monomial_in corank m && nat_le (sum m.e) 17) IsMonomial (λ m q. residual_is corank m q) ms h
-
-monomials_clean : (ms : List Exp) → AllByRecursion IsMonomial ms → IsClean (flat_map (λ m. 32 ∷ monomial_text m) ms)
-monomials_clean [] h = tt
-monomials_clean (m ∷ ms) h = clean-append (32 ∷ monomial_text m) (flat_map (λ m. 32 ∷ monomial_text m) ms) ((λ e. omega (arith, e)), shows-clean (monomial_text m) (shows-monomial m h.0)) (monomials_clean ms h.1)
+all_residual corank ms h = all_from (is_low_monomial corank) IsMonomial (reporting.low_monomial corank) ms h
 
 pub basis_clean : (corank : ℕ) (ms : List Exp) → AreResidual corank ms → IsClean (basis_inside ms)
-basis_clean corank ms h = clean-append (codes "basis") (flat_map (λ m. 32 ∷ monomial_text m) ms) (omega arith) (monomials_clean ms (all_residual corank ms h))
+basis_clean corank ms h =
+    clean-append (word_text words.Basis) (monomials_text ms) (word_clean words.Basis)
+    (clean-flat_map (IsResidual corank) (λ m. 32 ∷ monomial_text m) (λ m r. ((λ e. omega (arith, e)), monomial_clean corank m r)) ms (list_each (is_low_monomial corank) ms h))
 
 pub basis_is_line : (corank : ℕ) (ms : List Exp) → IsBasis corank ms → IsLine (basis_line ms)
 basis_is_line corank ms h = line-line (basis_inside ms) (basis_clean corank ms h.residual)
 
 basis_told : (corank : ℕ) → IsSelfEnding (IsBasis corank) basis_line
-unfolding word_text
 basis_told corank = record { one = λ us vs x y ou ov e. reporting.basis_rest us vs x y (all_residual corank us ou.residual) (all_residual corank vs ov.residual) e }
 
 some_basis : (corank : ℕ) → IsBasis corank (one_monomial ∷ [])
-some_basis corank = record { some = omega arith; few = omega arith; residual = and_true (is_monomial_in corank one_monomial && true) true (one_residual corank) refl }
+some_basis corank = record { some = omega arith; few = omega arith; residual = both_true (one_residual corank) refl }
 
 -- ---- validity of rows, in the words of a report
 
-row_from : (c : Carried) (row : MatherRow Element) → IsRowOf c.algebra c.corank c.order row → IsWellFormedRow c row
-row_from c row h = record { residual = h.residual; monomial = h.monomial; multipliers = record { count = h.multipliers.count; each = h.multipliers.each } }
-
-row_to : (c : Carried) (row : MatherRow Element) → IsWellFormedRow c row → IsRowOf c.algebra c.corank c.order row
-row_to c row h = record { residual = h.residual; monomial = h.monomial; multipliers = record { count = h.multipliers.count; each = h.multipliers.each } }
-
 pub rows_from : (c : Carried) (rows : List (MatherRow Element)) → AreAtMost (IsRowOf c.algebra c.corank c.order) (most_rows c.corank) rows → AreRows c rows
-rows_from c rows h = record { few = most_at_most c.corank (length rows) h.0; each = all_to (IsRowOf c.algebra c.corank c.order) (IsWellFormedRow c) (row_from c) rows h.1 }
+rows_from c rows h = record { few = most_at_most c.corank (length rows) h.0; each = h.1 }
 
 pub rows_to : (c : Carried) (rows : List (MatherRow Element)) → AreRows c rows → AreAtMost (IsRowOf c.algebra c.corank c.order) (most_rows c.corank) rows
-rows_to c rows h = (few_of c.corank rows (λ row q. q.residual) h.few h.each, all_to (IsWellFormedRow c) (IsRowOf c.algebra c.corank c.order) (row_to c) rows h.each)
+rows_to c rows h = (few_of c.corank rows (λ row q. q.residual) h.few h.each, h.each)
   where
-    few_of : (corank : ℕ) (rows : List (MatherRow Element)) → ((row : MatherRow Element) → IsWellFormedRow c row → 1 ≤ corank) → length rows ≤ 1140 → AllByRecursion (IsWellFormedRow c) rows → length rows ≤ most_rows corank
+    few_of : (corank : ℕ) (rows : List (MatherRow Element)) → ((row : MatherRow Element) → IsRowOf c.algebra c.corank c.order row → 1 ≤ corank) → length rows ≤ 1140 → AllByRecursion (IsRowOf c.algebra c.corank c.order) rows → length rows ≤ most_rows corank
     few_of zero [] res few each = omega arith
     few_of zero (row ∷ rows) res few each = let q = res row each.0 in absurd (omega (arith, q))
     few_of (suc k) rows res few each = few
-
-table_from : (c : Carried) (size : ℕ) (row : TableRow Element) → IsTableRowOf c.algebra c.corank c.order size row → IsWellFormedTableRow c size row
-table_from c size row h = record { monomial = h.monomial; count = h.values.count_is; values = h.values.elements; multipliers = record { count = h.multipliers.count; each = h.multipliers.each } }
-
-table_to : (c : Carried) (size : ℕ) (row : TableRow Element) → IsWellFormedTableRow c size row → IsTableRowOf c.algebra c.corank c.order size row
-table_to c size row h = record { monomial = h.monomial; values = record { count_is = h.count; elements = h.values }; multipliers = record { count = h.multipliers.count; each = h.multipliers.each } }
-
-pub tests_of : {A : Type 0} (t : A → Bool) (xs : List A) → AllByRecursion (λ x. IsTrue (t x)) xs → list_all t xs ≡ true
-tests_of t [] h = refl
-tests_of t (x ∷ xs) h = and_true (t x) (list_all t xs) h.0 (tests_of t xs h.1)
-
-pub of_tests : {A : Type 0} (t : A → Bool) (xs : List A) → list_all t xs ≡ true → AllByRecursion (λ x. IsTrue (t x)) xs
-of_tests t xs h = all_from t (λ x. IsTrue (t x)) (λ x q. q) xs h
 
 pub carried_frame : (c : Carried) → IsWellFormedCarried c → IsFrame (frame_of c)
 carried_frame c h = let le = h.corank in let few = h.few_names in record { order_at_least = h.order_at_least; order_at_most = h.order_at_most; algebra = h.algebra; corank = omega (arith, le, few) }
@@ -135,7 +110,7 @@ named_made f rows basis table w hr hb ht = record {
     family = w.family;
     carried = w.carried;
     few_units = w.units.0;
-    units = tests_of (λ u. is_element f.carried.algebra u.0 && is_element f.carried.algebra u.1) f.units w.units.1;
+    units = all_list (is_unit_pair f.carried.algebra) f.units w.units.1;
     modulus = w.modulus;
     milnor = w.milnor;
     mather = rows_from f.carried rows hr;
@@ -143,7 +118,7 @@ named_made f rows basis table w hr hb ht = record {
     few_in_basis = hb.few;
     basis = hb.residual;
     few_in_table = ht.0;
-    table = all_to (IsTableRowOf f.carried.algebra f.carried.corank f.carried.order (length basis)) (IsWellFormedTableRow f.carried (length basis)) (table_from f.carried (length basis)) table ht.1;
+    table = ht.1;
   };
   family = refl;
   carried = refl;
@@ -162,7 +137,7 @@ basis_in f r h = record { some = h.valid.basis_nonempty; few = h.valid.few_in_ba
 
 table_in : (f : Front) (r : named_type.Named) → IsNamedAs f r → TableOf f (length r.quotient.basis) r.quotient.table
 table_in f r h = subst (λ (c : Carried). AreAtMost (IsTableRowOf c.algebra c.corank c.order (length r.quotient.basis)) 1140 r.quotient.table) h.carried
-    (h.valid.few_in_table, all_to (IsWellFormedTableRow r.carried (length r.quotient.basis)) (IsTableRowOf r.carried.algebra r.carried.corank r.carried.order (length r.quotient.basis)) (table_to r.carried (length r.quotient.basis)) r.quotient.table h.valid.table)
+    (h.valid.few_in_table, h.valid.table)
 
 mather_pair : (f : Front) → IsFront f → IsPair (RowsOf f) (counted_text words.Mather mather_text) (λ rows r. IsNamedAs f r × (r.mather ≡ rows)) basis_rest (IsNamedAs f) mather_rest
 unfolding mather_rest
@@ -216,7 +191,6 @@ evidence_read f rows basis size table r bytes rest last end w same is h e b d t 
 
 -- no line of a basis of this size
 pub basis_size : (corank : ℕ) (basis : List Exp) (text rest bytes : List ℕ) → AreResidual corank basis → basis_inside basis ≡ text → bytes ≡ text ++ 10 ∷ rest → (IsWithin 1 1140 (length basis) → ⊥) → IsNotAtFront (IsBasis corank) basis_line bytes
-unfolding word_text
 basis_size corank basis text rest bytes res same e not_in v more h q =
     let one = reporting.basis_rest v basis more rest (all_residual corank v h.residual) (all_residual corank basis res) (q ∙ sym (line_front (basis_inside basis) text rest bytes same e)) in
     not_in (subst (λ (z : List Exp). IsWithin 1 1140 (length z)) one.0 (h.some, h.few))
@@ -251,7 +225,7 @@ HasMilnor family c us m k r = HasModulus family c us m r × (r.milnor ≡ k)
 carried_pair : (family : Family) → IsFamily family → IsPair IsWellFormedCarried (carried_text words.Form) (λ c r. IsOfFamily family r × (r.carried ≡ c)) units_rest (IsOfFamily family) named_rest
 unfolding named_rest front_of
 carried_pair family w = field_pair IsWellFormedCarried (carried_text words.Form) (IsOfFamily family) named_rest (λ r. r.carried) units_rest
-    (carried_whole words.Form) (record { one = λ a b x y oa ob e. carried_one words.Form a b x y oa ob e })
+    (carried_whole words.Form) (carried_told words.Form)
     (λ c h. let r = some_named family c [] moduli.None 0 w h (omega arith, tt) refl (lit< tt) in (r.0, (r.1.valid, r.1.family), r.1.carried))
     (λ r h. h.0.carried) (λ r h. refl)
 
@@ -260,7 +234,7 @@ unfolding units_rest front_of
 units_pair family c w wc = field_pair (AreAtMost (IsUnitPair c.algebra) 1140) (counted_text words.Units unit_text) (HasCarried family c) units_rest (λ r. r.units) modulus_rest
     (counted_whole words.Units 1140 (IsUnitPair c.algebra) unit_text (lit< tt) (unit_is_line c.algebra)) (counted_told words.Units 1140 (IsUnitPair c.algebra) unit_text (lit< tt) (unit_told c.algebra))
     (λ us h. let r = some_named family c us moduli.None 0 w wc h refl (lit< tt) in (r.0, ((r.1.valid, r.1.family), r.1.carried), r.1.units))
-    (λ r h. subst (λ (z : Carried). AreAtMost (IsUnitPair z.algebra) 1140 r.units) h.1 (h.0.0.few_units, of_tests (λ u. is_element r.carried.algebra u.0 && is_element r.carried.algebra u.1) r.units h.0.0.units)) (λ r h. refl)
+    (λ r h. subst (λ (z : Carried). AreAtMost (IsUnitPair z.algebra) 1140 r.units) h.1 (h.0.0.few_units, list_each (is_unit_pair r.carried.algebra) r.units h.0.0.units)) (λ r h. refl)
 
 modulus_is_line : (a : Algebra) (m : ModulusLine) → IsTrue (is_valid_modulus a m) → IsLine (word_line words.Modulus (modulus_text m))
 modulus_is_line a m h = line-word_line words.Modulus (modulus_text m) (modulus_clean a m h)
@@ -361,7 +335,7 @@ MatherOf c rows = AreAtMost (IsRowOf c.algebra c.corank c.order) (most_rows c.co
 unresolved_pair : IsPair IsWellFormedCarried (carried_text words.Jet) (λ c r. IsWellFormedUnresolved r × (r.carried ≡ c)) (λ r. counted_text words.Mather mather_text r.mather) IsWellFormedUnresolved unresolved_rest
 unfolding unresolved_rest
 unresolved_pair = field_pair IsWellFormedCarried (carried_text words.Jet) IsWellFormedUnresolved unresolved_rest (λ r. r.carried) (λ r. counted_text words.Mather mather_text r.mather)
-    (carried_whole words.Jet) (record { one = λ a b x y oa ob e. carried_one words.Jet a b x y oa ob e })
+    (carried_whole words.Jet) (carried_told words.Jet)
     (λ c h. (record { carried = c; mather = [] }, record { carried = h; mather = record { few = omega arith; each = tt } }, refl))
     (λ r h. h.carried) (λ r h. refl)
 

@@ -1,16 +1,19 @@
 -- The lines of the parts of a change.
 use Rattle.std.proofs.Common.{◌≡◌, ℕ, zero, suc, ◌+◌, ◌-◌, ◌<◌, ◌≤◌, Bool, true, false, eqb, leb, not, ◌&&◌, inl, List, [], ◌∷◌, ◌++◌, length, drop, refl, sym, ap, ◌∙◌, subst, append_assoc, append-nil, length-append, arith}
-use Rattle.std.specs.Prelude.{codes, sum}
+use Rattle.std.specs.Prelude.{codes, sum, IsTrue}
 use Rattle.std.specs.List.{AllByRecursion, list_all}
+use Rattle.std.specs.Cmp.Derive.{both_true}
+use Rattle.std.proofs.lemmas.List.Folds.{list_all-append}
 use Rattle.ext_algebra.specs.declared.algebra.Algebra.{Algebra}
 use Rattle.ext_algebra.specs.Algebra.{is_element}
 use Rattle.mono_exp.specs.declared.exponent.Exp.{Exp}
 use Rattle.jet_poly.specs.JetTerms.{JetTerms}
+use Rattle.jet_poly.proofs.Output.{all-push}
 use Rattle.poly_text.specs.declared.name.Name.{Name}
 use Rattle.poly_text.specs.Polynomials.{name_text, jet_text, polynomial_in}
 use Rattle.cert_text.specs.declared.word.Word.TheVariants as words
 use Rattle.cert_text.specs.Words.{word_text}
-use Rattle.cert_text.specs.Text.{line, part_text, parts_text}
+use Rattle.cert_text.specs.Text.{line, part_text, parts_text, part_inside}
 use Rattle.cert_text.specs.BadText.{IsWholeLines}
 use Rattle.cert_text.specs.WellFormed.{is_valid_name, is_monomial_in, is_term_of, is_zero_element, IsPartOf}
 use Rattle.cert_law.specs.Unique.{IsSelfEnding}
@@ -18,15 +21,18 @@ use Rattle.cert_law.specs.Fields.{Element, Term, IsPolynomial, IsReadableJet}
 use Rattle.cert_law.proofs.Valid.{both, all_to, polynomial_by}
 use Rattle.cert_law.proofs.Parts as law
 use Rattle.cert_law.proofs.Carrying.{part_lines, jets_same, readable}
-use Rattle.row_reader.specs.Rows.{IsNamedPart, part_inside}
+use Rattle.row_reader.specs.Rows.{IsNamedPart}
+use Rattle.row_reader.proofs.ValueTexts.{all_list}
 use Rattle.report_reader.specs.declared.frame.Frame.{Frame}
 use Rattle.report_reader.specs.declared.frame.Parts.{Parts}
 use Rattle.report_reader.specs.Lines.{IsClean}
 use Rattle.report_reader.specs.Blocks.{IsStop, IsNotAtFront}
 use Rattle.report_reader.specs.States.{IsFrame, part_line, lines_of, change_text, pushed, ArePartsIn, AreParts, AreSoMany}
 use Rattle.report_reader.proofs.Fronts.{clean-append, line-line, line-word}
-use Rattle.report_reader.proofs.Shown.{shows-clean, shows-name, shows-jet}
+use Rattle.report_reader.proofs.CleanTexts.{jet_clean, name_clean}
 use Rattle.report_reader.proofs.Stops.{IsLine, IsApart, stop_here, stop_behind, whole-append, whole-line}
+use Rattle.report_reader.proofs.RowLines.{many_copies}
+use Rattle.normal_forms.proofs.FormTerms.{all-append}
 
 -- ---- one part
 
@@ -34,8 +40,8 @@ pub part_clean : (f : Frame) (n : ℕ) → IsFrame f → (p : Name × JetTerms E
 part_clean f n w p h =
     let le = w.order_at_most in
     clean-append (name_text p.0 ++ codes " = ") (jet_text p.1)
-    (clean-append (name_text p.0) (codes " = ") (shows-clean (name_text p.0) (shows-name p.0 h.name)) (omega arith))
-    (shows-clean (jet_text p.1) (shows-jet n f.order f.algebra p.1 (omega (arith, le)) h.part.jet))
+    (clean-append (name_text p.0) (codes " = ") (name_clean p.0 h.name) (omega arith))
+    (jet_clean n f.order f.algebra le p.1 h.part.jet)
 
 pub part_is_line : (f : Frame) (n : ℕ) → IsFrame f → (p : Name × JetTerms Element) → IsNamedPart f.algebra n f.order p → IsLine (part_line p)
 unfolding part_text
@@ -51,14 +57,10 @@ drop_all p (suc n) zero xs le h = absurd (omega (arith, le))
 drop_all p (suc n) (suc k) [] le h = refl
 drop_all p (suc n) (suc k) (x ∷ xs) le h = drop_all p n k xs (omega (arith, le)) h
 
-and_true : (a b : Bool) → a ≡ true → b ≡ true → (a && b) ≡ true
-and_true true b p q = q
-and_true false b p q = absurd cc
-
 monomial_wide : (n k : ℕ) (m : Exp) → n ≤ k → is_monomial_in n m ≡ true → is_monomial_in k m ≡ true
 monomial_wide n k m le h =
     let p = both (eqb (length m.e) 8) (list_all (λ e. eqb e 0) (drop n m.e)) h in
-    and_true (eqb (length m.e) 8) (list_all (λ e. eqb e 0) (drop k m.e)) p.0 (drop_all (λ e. eqb e 0) n k m.e le p.1)
+    both_true p.0 (drop_all (λ e. eqb e 0) n k m.e le p.1)
 
 term_wide : (n k order : ℕ) (a : Algebra) (t : Term) → n ≤ k → is_term_of n order a t ≡ true → is_term_of k order a t ≡ true
 term_wide n k order a t le h =
@@ -66,13 +68,13 @@ term_wide n k order a t le h =
     let co = is_element a t.1 && not (is_zero_element t.1) in
     let p = both (is_monomial_in n t.0 && low) co h in
     let q = both (is_monomial_in n t.0) low p.0 in
-    and_true (is_monomial_in k t.0 && low) co (and_true (is_monomial_in k t.0) low (monomial_wide n k t.0 le q.0) q.1) p.1
+    both_true (both_true (monomial_wide n k t.0 le q.0) q.1) p.1
 
 terms_wide : (n k order : ℕ) (a : Algebra) (ts : List Term) → n ≤ k → list_all (is_term_of n order a) ts ≡ true → list_all (is_term_of k order a) ts ≡ true
 terms_wide n k order a [] le h = refl
 terms_wide n k order a (t ∷ ts) le h =
     let p = both (is_term_of n order a t) (list_all (is_term_of n order a) ts) h in
-    and_true (is_term_of k order a t) (list_all (is_term_of k order a) ts) (term_wide n k order a t le p.0) (terms_wide n k order a ts le p.1)
+    both_true (term_wide n k order a t le p.0) (terms_wide n k order a ts le p.1)
 
 abbrev pub widened : ℕ → JetTerms Element → JetTerms Element
 widened k f = record { n = k; order = f.order; terms = f.terms }
@@ -190,20 +192,16 @@ too_few f n count total p bytes rest w h lt e none v more ok q =
 
 -- ---- one more part
 
-all_push : {A : Type 0} (P : A → Type 0) (xs : List A) (x : A) → AllByRecursion P xs → P x → AllByRecursion P (xs ++ x ∷ [])
-all_push P [] x h p = (p, tt)
-all_push P (y ∷ xs) x h p = (h.0, all_push P xs x h.1 p)
-
-tests_push : {A : Type 0} (t : A → Bool) (xs : List A) (x : A) → list_all t xs ≡ true → t x ≡ true → list_all t (xs ++ x ∷ []) ≡ true
-tests_push t [] x h p = and_true (t x) true p refl
-tests_push t (y ∷ xs) x h p = let q = both (t y) (list_all t xs) h in and_true (t y) (list_all t (xs ++ x ∷ [])) q.0 (tests_push t xs x q.1 p)
+parts_append : (ms ns : List Name) (fs gs : List (JetTerms Element)) → length fs ≡ length ms → parts_text (ms ++ ns) (fs ++ gs) ≡ parts_text ms fs ++ parts_text ns gs
+unfolding parts_text
+parts_append [] ns [] gs e = refl
+parts_append [] ns (f ∷ fs) gs e = absurd (omega (arith, e))
+parts_append (m ∷ ms) ns [] gs e = absurd (omega (arith, e))
+parts_append (m ∷ ms) ns (f ∷ fs) gs e = ap (λ (z : List ℕ). part_text m f ++ z) (parts_append ms ns fs gs (omega (arith, e))) ∙ sym (append_assoc (part_text m f) (parts_text ms fs) (parts_text ns gs))
 
 parts_push : (ms : List Name) (fs : List (JetTerms Element)) (n : Name) (g : JetTerms Element) → length fs ≡ length ms → parts_text (ms ++ n ∷ []) (fs ++ g ∷ []) ≡ parts_text ms fs ++ part_text n g
 unfolding parts_text
-parts_push [] [] n g e = let z = append-nil (part_text n g) in z
-parts_push [] (f ∷ fs) n g e = absurd (omega (arith, e))
-parts_push (m ∷ ms) [] n g e = absurd (omega (arith, e))
-parts_push (m ∷ ms) (f ∷ fs) n g e = ap (λ (z : List ℕ). part_text m f ++ z) (parts_push ms fs n g (omega (arith, e))) ∙ sym (append_assoc (part_text m f) (parts_text ms fs) (part_text n g))
+parts_push ms fs n g e = parts_append ms (n ∷ []) fs (g ∷ []) e ∙ ap (λ (z : List ℕ). parts_text ms fs ++ z) (append-nil (part_text n g))
 
 pub many_none : (f : Frame) (n : ℕ) → AreSoMany f n 0 (record { names = []; parts = [] })
 many_none f n = record { parts = record { names = refl; count = refl; parts = tt }; long = refl }
@@ -216,9 +214,9 @@ many_more f n count p q h part =
     let same = h.parts.count in
     record {
       parts = record {
-        names = tests_push is_valid_name p.names q.0 h.parts.names part.name;
+        names = list_all-append is_valid_name p.names (q.0 ∷ []) ∙ both_true h.parts.names (both_true part.name refl);
         count = omega (arith, names_size, parts_size, same);
-        parts = all_push (IsPartOf n f.order f.algebra) p.parts q.1 h.parts.parts part.part;
+        parts = all-push (IsPartOf n f.order f.algebra) p.parts q.1 h.parts.parts part.part;
       };
       long = omega (arith, names_size, long);
     }
@@ -233,30 +231,11 @@ more_lines f n count p q rest after bytes h e a =
 abbrev default_name : Name
 default_name = record { bytes = 120 ∷ 0 ∷ 0 ∷ 0 ∷ []; len = 1 }
 
-abbrev zero_jet : ℕ → ℕ → JetTerms Element
+abbrev pub zero_jet : ℕ → ℕ → JetTerms Element
 zero_jet n order = record { n = n; order = order; terms = [] }
-
-copies : {A : Type 0} → ℕ → A → List A
-copies zero x = []
-copies (suc k) x = x ∷ copies k x
-
-length-copies : {A : Type 0} (k : ℕ) (x : A) → length (copies k x) ≡ k
-unfolding copies
-length-copies zero x = refl
-length-copies (suc k) x = let h = length-copies k x in omega (arith, h)
-
-valid_copies : (k : ℕ) → list_all is_valid_name (copies k default_name) ≡ true
-unfolding copies
-valid_copies zero = refl
-valid_copies (suc k) = valid_copies k
 
 pub zero_part : (n order : ℕ) (a : Algebra) → IsPartOf n order a (zero_jet n order)
 zero_part n order a = record { jet = record { variables = refl; order_is = refl; rising = tt; terms = refl }; no_constant = refl }
-
-zero_copies : (n order : ℕ) (a : Algebra) (k : ℕ) → AllByRecursion (IsPartOf n order a) (copies k (zero_jet n order))
-unfolding copies
-zero_copies n order a zero = tt
-zero_copies n order a (suc k) = (zero_part n order a, zero_copies n order a k)
 
 -- the lines that follow those that stand at the front, in the text of valid parts
 record Follows (f : Frame) (passed w : Parts) : Type 0 where
@@ -278,38 +257,26 @@ follows_from f count passed v x y fw h ok e =
     let text = ap (λ (z : List ℕ). z ++ (105 ∷ 110 ∷ 118 ∷ 101 ∷ 114 ∷ 115 ∷ 101 ∷ 10 ∷ [])) r.text ∙ append_assoc (lines_of passed) (parts_text r.names r.parts) (105 ∷ 110 ∷ 118 ∷ 101 ∷ 114 ∷ 115 ∷ 101 ∷ 10 ∷ []) in
     (record { names = r.names; parts = r.parts }, record { whole = v; valid = ok; names = r.valid; count = r.count; each = r.each; text = text; size = r.size }, text)
 
-parts_append : (ms ns : List Name) (fs gs : List (JetTerms Element)) → length fs ≡ length ms → parts_text (ms ++ ns) (fs ++ gs) ≡ parts_text ms fs ++ parts_text ns gs
-unfolding parts_text
-parts_append [] ns [] gs e = refl
-parts_append [] ns (f ∷ fs) gs e = absurd (omega (arith, e))
-parts_append (m ∷ ms) ns [] gs e = absurd (omega (arith, e))
-parts_append (m ∷ ms) ns (f ∷ fs) gs e = ap (λ (z : List ℕ). part_text m f ++ z) (parts_append ms ns fs gs (omega (arith, e))) ∙ sym (append_assoc (part_text m f) (parts_text ms fs) (parts_text ns gs))
-
-all_append : {A : Type 0} (P : A → Type 0) (xs ys : List A) → AllByRecursion P xs → AllByRecursion P ys → AllByRecursion P (xs ++ ys)
-all_append P [] ys h k = k
-all_append P (x ∷ xs) ys h k = (h.0, all_append P xs ys h.1 k)
-
-tests_append : {A : Type 0} (t : A → Bool) (xs ys : List A) → list_all t xs ≡ true → list_all t ys ≡ true → list_all t (xs ++ ys) ≡ true
-tests_append t [] ys h k = k
-tests_append t (x ∷ xs) ys h k = let q = both (t x) (list_all t xs) h in and_true (t x) (list_all t (xs ++ ys)) q.0 (tests_append t xs ys q.1 k)
-
 -- parts x = 0 up to eight parts in all
 completed : (f : Frame) (count : ℕ) (passed : Parts) → IsFrame f → AreSoMany f 8 count passed → count ≤ 8 → (w : Parts) × Follows f passed w
 unfolding change_text
 completed f count passed fw h few =
     let k = 8 - count in
-    let ns = copies k default_name in
-    let gs = copies k (zero_jet 8 f.order) in
-    let ns_size = length-copies k default_name in
-    let gs_size = length-copies k (zero_jet 8 f.order) in
+    let some_names = many_copies (λ name. IsTrue (is_valid_name name)) k default_name refl in
+    let some_jets = many_copies (IsPartOf 8 f.order f.algebra) k (zero_jet 8 f.order) (zero_part 8 f.order f.algebra) in
+    let ns = some_names.0 in
+    let gs = some_jets.0 in
+    let ns_size = some_names.1.0 in
+    let gs_size = some_jets.1.0 in
+    let valid = all_list is_valid_name ns some_names.1.1 in
     let long = h.long in
     let same = h.parts.count in
     let names_size = length-append passed.names ns in
     let parts_size = length-append passed.parts gs in
     let corank = fw.corank in
     let eight : length (passed.names ++ ns) ≡ 8 = omega (arith, names_size, ns_size, long, few) in
-    let each : AllByRecursion (IsPartOf 8 f.order f.algebra) (passed.parts ++ gs) = all_append (IsPartOf 8 f.order f.algebra) passed.parts gs h.parts.parts (zero_copies 8 f.order f.algebra k) in
-    let gs_each : AllByRecursion (IsPartOf 8 f.order f.algebra) gs = zero_copies 8 f.order f.algebra k in (
+    let each : AllByRecursion (IsPartOf 8 f.order f.algebra) (passed.parts ++ gs) = all-append (IsPartOf 8 f.order f.algebra) passed.parts gs h.parts.parts some_jets.1.1 in
+    let gs_each : AllByRecursion (IsPartOf 8 f.order f.algebra) gs = some_jets.1.1 in (
       record { names = ns; parts = gs },
       record {
         whole = record { names = passed.names ++ ns; parts = passed.parts ++ gs };
@@ -318,12 +285,12 @@ completed f count passed fw h few =
           few_names = omega (arith, eight);
           corank = omega (arith, eight, corank);
           parts = record {
-            names = tests_append is_valid_name passed.names ns h.parts.names (valid_copies k);
+            names = list_all-append is_valid_name passed.names ns ∙ both_true h.parts.names valid;
             count = omega (arith, names_size, parts_size, ns_size, gs_size, same);
             parts = subst (λ (n : ℕ). AllByRecursion (IsPartOf n f.order f.algebra) (passed.parts ++ gs)) (sym eight) each;
           };
         };
-        names = valid_copies k;
+        names = valid;
         count = gs_size ∙ sym ns_size;
         each = subst (λ (n : ℕ). AllByRecursion (IsPartOf n f.order f.algebra) gs) (sym eight) gs_each;
         text = ap (λ (z : List ℕ). z ++ line (word_text words.Inverse)) (parts_append passed.names ns passed.parts gs same) ∙ append_assoc (lines_of passed) (parts_text ns gs) (line (word_text words.Inverse));

@@ -1,7 +1,8 @@
 -- Rows, a line each, and rows with their count before them.
-use Rattle.std.proofs.Common.{◌≡◌, ℕ, zero, suc, ◌+◌, ◌<◌, ◌≤◌, ◌^◌, List, [], ◌∷◌, ◌++◌, length, refl, sym, ap, ◌∙◌, subst, append_assoc, append-nil, length-append, arith}
+use Rattle.std.proofs.Common.{◌≡◌, ℕ, zero, suc, ◌+◌, ◌<◌, ◌≤◌, ◌^◌, List, [], ◌∷◌, ◌++◌, length, refl, sym, ap, ◌∙◌, subst, append_assoc, append-nil, length-append, arith, inl}
 use Rattle.std.specs.Prelude.{decimal}
 use Rattle.std.specs.List.{AllByRecursion, flat_map}
+use Rattle.std.proofs.lemmas.List.Concat.{flat_map-append}
 use Rattle.cert_text.specs.declared.word.Word.{Word}
 use Rattle.cert_text.specs.Text.{word_line}
 use Rattle.cert_text.specs.BadText.{IsWholeLines}
@@ -11,7 +12,8 @@ use Rattle.report_reader.specs.Lines.{IsWithin}
 use Rattle.report_reader.specs.Blocks.{IsStop, IsNotAtFront}
 use Rattle.report_reader.specs.Rows.{AreMany, AreAtMost, counted_text}
 use Rattle.report_reader.proofs.Fronts.{line-word_line, within_clean}
-use Rattle.report_reader.proofs.Stops.{IsLine, IsApart, IsPair, stop_here, stop_behind, pair_first, pair_second, whole-line}
+use Rattle.report_reader.proofs.Stops.{IsLine, IsApart, IsPair, stop_here, stop_behind, pair_first, pair_second, whole-line, whole-append}
+use Rattle.jet_poly.proofs.Output.{all-push}
 
 -- a line that is not there stops a block of one line
 pub line_stop : {A : Type 0} (valid : A → Type 0) (text : A → List ℕ) (bytes : List ℕ) (v : A) → valid v → ((w : A) → valid w → IsLine (text w)) → IsNotAtFront valid text bytes → IsStop valid text bytes (length bytes)
@@ -74,23 +76,25 @@ rows_stop {A} valid text (suc n) (d ∷ done) bytes rest some ok told lines each
         let size = is.0 in
         (xs, (omega (arith, size), is.1.1), ap (λ (z : A). text z ++ flat_map text xs) h.0)
 
--- one more row
-pub all_push : {A : Type 0} (P : A → Type 0) (xs : List A) (x : A) → AllByRecursion P xs → P x → AllByRecursion P (xs ++ x ∷ [])
-all_push P [] x h p = (p, tt)
-all_push P (y ∷ xs) x h p = (h.0, all_push P xs x h.1 p)
+pub rows_whole : {A : Type 0} (valid : A → Type 0) (text : A → List ℕ) → ((a : A) → valid a → IsLine (text a)) → (xs : List A) → AllByRecursion valid xs → IsWholeLines (flat_map text xs)
+rows_whole valid text lines [] h = inl refl
+rows_whole valid text lines (x ∷ xs) h = whole-append (text x) (flat_map text xs) (whole-line (text x) (lines x h.0)) (rows_whole valid text lines xs h.1)
 
+-- one more row
 flat_push : {A : Type 0} (text : A → List ℕ) (xs : List A) (x : A) → flat_map text (xs ++ x ∷ []) ≡ flat_map text xs ++ text x
-flat_push text [] x = append-nil (text x)
-flat_push text (y ∷ xs) x = ap (λ (z : List ℕ). text y ++ z) (flat_push text xs x) ∙ sym (append_assoc (text y) (flat_map text xs) (text x))
+flat_push text xs x = flat_map-append text xs (x ∷ []) ∙ ap (λ (z : List ℕ). flat_map text xs ++ z) (append-nil (text x))
+
+pub pushed_text : {A : Type 0} (text : A → List ℕ) (xs : List A) (x : A) (rest after bytes : List ℕ) → flat_map text xs ++ rest ≡ bytes → text x ++ after ≡ rest → flat_map text (xs ++ x ∷ []) ++ after ≡ bytes
+pushed_text text xs x rest after bytes e a = ap (λ (z : List ℕ). z ++ after) (flat_push text xs x) ∙ append_assoc (flat_map text xs) (text x) after ∙ ap (λ (z : List ℕ). flat_map text xs ++ z) a ∙ e
 
 pub many_more : {A : Type 0} (valid : A → Type 0) (text : A → List ℕ) (k : ℕ) (xs ys : List A) (x : A) (rest after bytes : List ℕ) → AreMany valid k xs → flat_map text xs ++ rest ≡ bytes → valid x → text x ++ after ≡ rest → ys ≡ xs ++ x ∷ []
     → AreMany valid (k + 1) ys × (flat_map text ys ++ after ≡ bytes)
 many_more {A} valid text k xs ys x rest after bytes is e ok a same =
     let size = length-append xs (x ∷ []) in
     let old = is.0 in
-    let more : AreMany valid (k + 1) (xs ++ x ∷ []) = (omega (arith, size, old), all_push valid xs x is.1 ok) in (
+    let more : AreMany valid (k + 1) (xs ++ x ∷ []) = (omega (arith, size, old), all-push valid xs x is.1 ok) in (
       subst (AreMany valid (k + 1)) (sym same) more,
-      ap (λ (z : List A). flat_map text z ++ after) same ∙ ap (λ (z : List ℕ). z ++ after) (flat_push text xs x) ∙ append_assoc (flat_map text xs) (text x) after ∙ ap (λ (z : List ℕ). flat_map text xs ++ z) a ∙ e,
+      ap (λ (z : List A). flat_map text z ++ after) same ∙ pushed_text text xs x rest after bytes e a,
     )
 
 -- the count of rows, and the rows

@@ -1,5 +1,6 @@
 -- Stops of blocks: at the first line, behind a line, in the first of two blocks.
 use Rattle.std.proofs.Common.{◌≡◌, ℕ, zero, suc, ◌<◌, ◌≤◌, ◌⊎◌, inl, inr, List, [], ◌∷◌, ◌++◌, length, refl, sym, ap, ◌∙◌, subst, append_assoc, length-append, arith}
+use Rattle.std.proofs.lemmas.Bool.{cases_lt}
 use Rattle.cert_text.specs.BadText.{IsWholeLines}
 use Rattle.cert_law.specs.Unique.{IsSelfEnding}
 use Rattle.cert_law.proofs.Cut.{head, same_front}
@@ -141,11 +142,6 @@ stop_behind valid text later others bytes lines rest left whole e into out s =
           s.longest r.0 g.more more next r.1 (whole-rest lines g.more (subst IsWholeLines g.long is)) g.rest go (omega (arith, size, lt, sizes, front_size));
     }
 
-either_way : (m n : ℕ) → (m ≤ n) ⊎ (n ≤ m)
-either_way zero n = inl (omega arith)
-either_way (suc m) zero = inr (omega arith)
-either_way (suc m) (suc n) = elim (either_way m n) [ inl le ↦ inl (omega (arith, le)) | inr le ↦ inr (omega (arith, le)) ]
-
 -- in the first of two blocks: each first block goes on, and each whole has a first block
 pub stop_before : {A B : Type 0} (valid : A → Type 0) (text : A → List ℕ) (whole : B → Type 0) (texts : B → List ℕ) (bytes : List ℕ) (left : ℕ)
     → ((a : A) → valid a → (b : B) × whole b × ((more : List ℕ) × (texts b ≡ text a ++ more)))
@@ -171,8 +167,8 @@ stop_before valid text whole texts bytes left onto from s =
     }
   where
     in_first : (t u front next : List ℕ) → (Goes front next t u → ⊥) → (Goes t u front next → ⊥) → t ++ u ≡ front ++ next → ⊥
-    in_first t u front next short long e = elim (either_way (length t) (length front)) [
-      | inl le ↦ long (shorter_front t u front next e le)
+    in_first t u front next short long e = elim (cases_lt (length t) (length front)) [
+      | inl lt ↦ long (shorter_front t u front next e (omega (arith, lt)))
       | inr le ↦ short (shorter_front front next t u (sym e) le)
     ]
 

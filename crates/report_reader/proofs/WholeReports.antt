@@ -4,6 +4,7 @@ use Rattle.std.proofs.lemmas.Bool.{ne_eqb}
 use Rattle.std.proofs.lemmas.List.{append-nil, length-take-le, take-append-drop, take_at}
 use Rattle.std.specs.List.{list_all}
 use Rattle.std.specs.Prelude.{decimal, nat_lt, ◌==◌}
+use Rattle.std.specs.Cmp.Derive.{both_true}
 use Rattle.cert_text.specs.declared.report.Answer.{Answer}
 use Rattle.cert_text.specs.declared.report.Report.{Report}
 use Rattle.cert_text.specs.declared.report.Report.TheVariants as reports
@@ -28,19 +29,11 @@ use Rattle.report_reader.proofs.WholeLines.{ends_answer, ends_report, whole_of}
 
 -- ---- the line of a germ
 
-both_true : (a b : Bool) → a ≡ true → b ≡ true → (a && b) ≡ true
-both_true true b e h = h
-both_true false b e h = absurd cc
-
-not_of : (t : Bool) → t ≡ false → not t ≡ true
-not_of true e = absurd cc
-not_of false e = refl
-
 -- bytes without newline, each below 256
 plain : (text : List ℕ) → ((i : ℕ) → Fits w8 (get_or text i 0)) → IsClean text → list_all (λ b. nat_lt b 256 && not (b == 10)) text ≡ true
 plain [] fits clean = refl
 plain (b ∷ bs) fits clean =
-    both_true (nat_lt b 256 && not (b == 10)) (list_all (λ c. nat_lt c 256 && not (c == 10)) bs) (both_true (nat_lt b 256) (not (b == 10)) (lt-ltb b 256 (fits 0).fits) (not_of (b == 10) (ne_eqb b 10 clean.0)))
+    both_true (both_true (lt-ltb b 256 (fits 0).fits) (ap not (ne_eqb b 10 clean.0)))
     (plain bs (λ i. fits (suc i)) clean.1)
 
 pub one_line : (text : List ℕ) → ((i : ℕ) → Fits w8 (get_or text i 0)) → IsClean text → length text ≤ 65536 → IsOneLine text

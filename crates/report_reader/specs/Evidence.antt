@@ -6,12 +6,11 @@ use Rattle.cert_text.specs.declared.report.Carried.{Carried}
 use Rattle.cert_text.specs.declared.report.Named as named_type
 use Rattle.cert_text.specs.declared.report.Unresolved as unresolved_type
 use Rattle.cert_text.specs.declared.word.Word.TheVariants as words
-use Rattle.cert_text.specs.Text.{line, word_line, carried_text, unit_text, modulus_text, mather_text, table_text}
-use Rattle.cert_text.specs.WellFormed.{IsWellFormedCarried, IsWellFormedNamed, is_valid_modulus}
-use Rattle.row_reader.specs.Values.{IsUnitPair, AreResidual, basis_inside}
+use Rattle.cert_text.specs.Text.{line, word_line, carried_text, unit_text, modulus_text, mather_text, table_text, basis_inside}
+use Rattle.cert_text.specs.WellFormed.{IsWellFormedCarried, IsWellFormedNamed, is_valid_modulus, IsFamily}
+use Rattle.row_reader.specs.Values.{IsUnitPair, AreResidual}
 use Rattle.report_reader.specs.declared.frame.Frame.{Frame}
 use Rattle.report_reader.specs.declared.named.Front.{Front}
-use Rattle.report_reader.specs.Lines.{IsFamily}
 use Rattle.report_reader.specs.Rows.{AreAtMost, counted_text}
 
 -- the order, the algebra and the corank

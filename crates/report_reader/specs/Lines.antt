@@ -1,14 +1,11 @@
 -- Lines, and numbers in a line.
-use Rattle.std.specs.Prelude.{◌≡◌, ℕ, ◌<◌, ◌≤◌, ◌^◌, IsTrue, ◌&&◌, List, ◌∷◌, ◌++◌, decimal}
+use Rattle.std.specs.Prelude.{◌≡◌, ℕ, ◌<◌, ◌≤◌, ◌^◌, List, ◌∷◌, ◌++◌, decimal}
 use Rattle.std.specs.List.{AllByRecursion}
-use Rattle.normal_forms.specs.declared.family.Family.{Family}
-use Rattle.normal_forms.specs.Families.{is_family}
 use Rattle.mono_exp.specs.declared.exponent.Exp.{Exp}
 use Rattle.poly_text.specs.declared.what.What.{What}
 use Rattle.poly_text.specs.Polynomials.{monomial_text}
 use Rattle.cert_text.specs.Names.{what_text}
 use Rattle.row_reader.specs.Values.{IsResidual}
-use Rattle.cert_text.specs.WellFormed.{has_small_numbers}
 
 -- no newline
 abbrev pub IsClean : List ℕ → Type 0
@@ -17,10 +14,6 @@ IsClean bytes = AllByRecursion (λ b. b ≡ 10 → ⊥) bytes
 -- a number from the one to the other
 abbrev pub IsWithin : ℕ → ℕ → ℕ → Type 0
 IsWithin least most n = (least ≤ n) × (n ≤ most)
-
--- a family of the list whose numbers are bytes
-abbrev pub IsFamily : Family → Type 0
-IsFamily family = IsTrue (is_family family && has_small_numbers family)
 
 -- a column below 2^32, and what stands there
 abbrev pub IsPlace : ℕ × What → Type 0

@@ -81,12 +81,7 @@ pub record ArePassed (f : Frame) (bytes : List ℕ) (found : ℕ × Bor (List �
 abbrev pub parts_of : Carried → Parts
 parts_of c = record { names = c.names; parts = c.change.parts }
 
--- ---- the matrix
-
--- so many rows of n elements
-pub record AreRowsOf (f : Frame) (rows n : ℕ) (es : List (Ext Frac)) : Type 0 where
-  pub size : length es ≡ rows * n
-  pub elements : IsTrue (list_all (is_element f.algebra) es)
+-- ---- the whole change
 
 -- the lines after `change`
 unfoldable pub change_rest : Word → Carried → List ℕ

@@ -1,13 +1,13 @@
 //! The lines from a change to the jet.
 
-ghost use Rattle.std.specs.Prelude.{◌≡◌, ◌++◌, ◌≤◌, None, IfOk, IfErr, IfSome, length};
+ghost use Rattle.std.specs.Prelude.{◌≡◌, ◌++◌, ◌≤◌, None, IfOk, IfErr, IfSome, length, ◌*◌};
 ghost use Rattle.poly_text.specs.Polynomials.{jet_text};
 ghost use Rattle.cert_text.specs.Text.{word_line, rows_text, line, spaced};
 ghost use Rattle.cert_text.specs.WellFormed.{IsJetOf};
 ghost use Rattle.row_reader.specs.Rows.{IsNamedPart};
 ghost use Rattle.row_reader.specs.Values.{AreElements};
 ghost use Rattle.report_reader.specs.Blocks.{IsAtFront, IsNotAtFront, IsHalt};
-ghost use Rattle.report_reader.specs.States.{IsFrame, IsFramed, part_line, lines_of, change_text, AreParts, AreSoMany, ArePassed, AreRowsOf, change_rest};
+ghost use Rattle.report_reader.specs.States.{IsFrame, IsFramed, part_line, lines_of, change_text, AreParts, AreSoMany, ArePassed, change_rest};
 
 use crate::frame::{Frame, Parts};
 use crate::halt::Halt;
@@ -141,8 +141,8 @@ fn read_matrix(
     n: u8,
     bytes: &[u8],
 ) -> Result<(Items<Ext<Frac>>, &[u8]), Halt>
-    ensures ok { IfOk result (IsAtFront (AreRowsOf frame n n) (rows_text n n) bytes.now) }
-    ensures halt { IfErr result (IsHalt (AreRowsOf frame n n) (rows_text n n) bytes.now) }
+    ensures ok { IfOk result (IsAtFront (AreElements frame.algebra (n * n)) (rows_text n n) bytes.now) }
+    ensures halt { IfErr result (IsHalt (AreElements frame.algebra (n * n)) (rows_text n n) bytes.now) }
 {
     let mut rest = bytes;
     let mut elements = Items::new(alloc);

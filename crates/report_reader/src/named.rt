@@ -1,9 +1,9 @@
 //! The lines of a named germ, and of an unresolved one.
 
 ghost use Rattle.std.specs.Prelude.{◌≡◌, ◌↔◌, None, IsTrue, IfOk, IfErr, IfSome};
-ghost use Rattle.cert_text.specs.WellFormed.{IsWellFormedUnresolved};
+ghost use Rattle.cert_text.specs.WellFormed.{IsWellFormedUnresolved, IsFamily};
 ghost use Rattle.report_reader.specs.Blocks.{IsAtFront, IsNotAtFront, IsHalt};
-ghost use Rattle.report_reader.specs.Lines.{IsFamily, IsWithin};
+ghost use Rattle.report_reader.specs.Lines.{IsWithin};
 ghost use Rattle.report_reader.specs.Evidence.{IsBasis, basis_line, IsFront, IsNamedAs, IsOfFamily, mather_rest, named_rest, unresolved_rest};
 
 use crate::carrying::read_carried;

@@ -2,14 +2,11 @@
 
 ghost use Rattle.std.specs.Prelude.{◌≡◌, ◌≤◌, None, IfSome};
 ghost use Rattle.text_reader.specs.Reading.{IsTextOf, IsNoText};
-ghost use Rattle.row_reader.specs.Values.{IsUnitPair, unit_inside, IsFunctionalValue, functional_inside};
 ghost use Rattle.report_reader.specs.Lines.{IsPlace, place_text, IsCounted, counted_monomial_text};
 
-use ext_algebra::{Algebra, Ext};
 use mono_exp::Exp;
 use poly_text::What;
-use ring_law::Frac;
-use text_reader::{read_element, read_monomial, read_u32, read_u64, read_what, split_at_byte};
+use text_reader::{read_monomial, read_u32, read_u64, read_what, split_at_byte};
 
 /// A column, and what stands there.
 pub(crate) fn read_place(text: &[u8]) -> Option<(u32, What)>
@@ -23,23 +20,6 @@ pub(crate) fn read_place(text: &[u8]) -> Option<(u32, What)>
             Some(column) => match read_what(behind) {
                 None => None,
                 Some(what) => Some((column, what)),
-            },
-        },
-    }
-}
-
-/// A unit and its inverse.
-pub(crate) fn read_unit(a: Algebra, text: &[u8]) -> Option<(Ext<Frac>, Ext<Frac>)>
-    ensures some { IfSome result (IsTextOf (IsUnitPair a) unit_inside text.now) }
-    ensures none { result ≡ None → IsNoText (IsUnitPair a) unit_inside text.now }
-{
-    match split_at_byte(text, b' ') {
-        None => None,
-        Some((front, behind)) => match read_element(a, front) {
-            None => None,
-            Some(unit) => match read_element(a, behind) {
-                None => None,
-                Some(inverse) => Some((unit, inverse)),
             },
         },
     }

@@ -5,11 +5,10 @@ ghost use Rattle.ext_algebra.specs.Algebra.{is_algebra};
 ghost use Rattle.poly_text.specs.Polynomials.{name_text};
 ghost use Rattle.cert_text.specs.Names.{family_text, pattern_text, phase_text};
 ghost use Rattle.cert_text.specs.Text.{word_line, algebra_text, modulus_text};
-ghost use Rattle.cert_text.specs.WellFormed.{is_valid_name, is_valid_modulus};
+ghost use Rattle.cert_text.specs.WellFormed.{is_valid_name, is_valid_modulus, IsFamily, IsExtension};
 ghost use Rattle.text_reader.specs.Reading.{IsAny};
-ghost use Rattle.text_reader.specs.Moduli.{IsExtension};
 ghost use Rattle.report_reader.specs.Blocks.{IsAtFront, IsNotAtFront};
-ghost use Rattle.report_reader.specs.Lines.{IsFamily, IsPlace, place_text};
+ghost use Rattle.report_reader.specs.Lines.{IsPlace, place_text};
 
 use crate::line::take_word_line;
 use crate::pair::read_place;

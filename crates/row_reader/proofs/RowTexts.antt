@@ -12,16 +12,16 @@ use Rattle.determinacy.specs.declared.row.MatherRow.{MatherRow}
 use Rattle.milnor_alg.specs.declared.quotient.TableRow.{TableRow}
 use Rattle.poly_text.specs.declared.name.Name.{Name}
 use Rattle.poly_text.specs.Polynomials.{jet_text, monomial_text, name_text, polynomial_in}
-use Rattle.cert_text.specs.Text.{multipliers_text}
-use Rattle.cert_text.specs.WellFormed.{IsJetOf, has_no_constant}
+use Rattle.cert_text.specs.Text.{multipliers_text, values_text, part_inside, mather_inside, table_inside}
+use Rattle.cert_text.specs.WellFormed.{IsJetOf, has_no_constant, AreJetsOf, IsRowOf, IsTableRowOf}
 use Rattle.cert_law.proofs.Cut.{cut, head, same_front}
 use Rattle.cert_law.proofs.Jets.{polynomial_one}
 use Rattle.cert_law.proofs.Valid.{polynomial_by}
 use Rattle.text_reader.proofs.VisibleTexts.{visible-jet, visible-name}
-use Rattle.row_reader.specs.Rows.{AreJetsOf, IsNamedPart, IsRowOf, IsTableRowOf, mather_inside, part_inside, table_inside}
-use Rattle.row_reader.specs.Values.{AreElements, IsResidual, values_text}
+use Rattle.row_reader.specs.Rows.{IsNamedPart}
+use Rattle.row_reader.specs.Values.{AreElements, IsResidual}
 use Rattle.row_reader.specs.Words.{after_space, IsRest, lead}
-use Rattle.row_reader.proofs.Series.{Begins, IsItem, IsLine, IsReadTo, read_done, read_more, read_start, read_stuck, series}
+use Rattle.row_reader.proofs.Series.{Begins, IsItem, IsLine, IsReadTo, read_done, read_more, read_start, read_stuck, series, too_few, no_more}
 use Rattle.row_reader.proofs.WordTexts.{IsWord, mark_one, monomial_one, rest_of, something_left, visible_word, word_is}
 
 abbrev Jet : Type 0
@@ -102,13 +102,6 @@ AreMultipliersTo a corank order all fs left = IsReadTo (IsJetOf corank order a) 
 pub multipliers_start : (a : Algebra) (corank order : ℕ) (all : List ℕ) → AreMultipliersTo a corank order all [] all
 multipliers_start a corank order all = read_start (IsJetOf corank order a) multiplier_piece (AreAll corank) all
 
-too_few : (count i : ℕ) (xs ys : List Jet) (y : List ℕ) → length xs ≡ i → i < count → AreAll count ys y → ys ≡ xs → ⊥
-too_few count i xs ys y len lt w same = let a = ap length same in let b = w.long in omega (arith, a, b, len, lt)
-
-no_more : (count : ℕ) (xs zs : List Jet) (y : List ℕ) → length xs ≡ count → AreAll count (xs ++ zs) y → zs ≡ []
-no_more count xs [] y len w = refl
-no_more count xs (z ∷ zs) y len w = let a = w.long in let b = length-append xs (z ∷ zs) in absurd (omega (arith, a, b, len))
-
 -- the multiplier that stands at the front
 pub multiplier_front : (a : Algebra) (corank order i : ℕ) (g : Jet) (word y left : List ℕ) (behind : Option (Bor (List ℕ))) → order < 256 → left ≡ lead i ++ (word ++ after_space behind) → IsWord word → IsJetOf corank order a g → IsRest y → left ≡ multiplier_piece i g ++ y
     → (jet_text g ≡ word) × (y ≡ after_space behind)
@@ -126,13 +119,13 @@ multipliers_more a corank order i all left fs f word behind small up len lt spli
       text = here ∙ ap (λ z. lead (length fs) ++ (z ++ after_space behind)) (sym text) ∙ sym (append_assoc (lead (length fs)) (jet_text f) (after_space behind));
       only = λ g y hg ry e. (let k = multiplier_front a corank order (length fs) g word y left behind small here hw hg ry e in (jet_same corank order a g f small hg is (k.0 ∙ sym text), k.1));
     })
-    (λ ys y w same h. too_few corank i fs ys y len lt w same)
+    (λ ys y w same h. too_few corank i fs ys len lt w.long same)
 
 multipliers_stuck : (a : Algebra) (corank order i : ℕ) (all left : List ℕ) (fs : List Jet) → AreMultipliersTo a corank order all fs left → length fs ≡ i → i < corank → ((g : Jet) (y : List ℕ) → IsJetOf corank order a g → IsRest y → left ≡ multiplier_piece i g ++ y → ⊥)
     → (gs : List Jet) → AreJetsOf a corank order gs → all ≡ multipliers_text gs → ⊥
 multipliers_stuck a corank order i all left fs up len lt none gs valid e =
     read_stuck (IsJetOf corank order a) multiplier_piece (AreAll corank) (multiplier_line corank) all fs left up (λ g y hg ry h. none g y hg ry (h ∙ ap (λ (k : ℕ). multiplier_piece k g ++ y) len))
-    (λ ys y w same h. too_few corank i fs ys y len lt w same) gs [] valid.each (record { long = valid.count; last = refl }) (e ∙ multipliers_series gs ∙ sym (append-nil (series multiplier_piece 0 gs)))
+    (λ ys y w same h. too_few corank i fs ys len lt w.long same) gs [] valid.each (record { long = valid.count; last = refl }) (e ∙ multipliers_series gs ∙ sym (append-nil (series multiplier_piece 0 gs)))
 
 -- no word stands there
 pub multiplier_missing : (a : Algebra) (corank order i : ℕ) (all left : List ℕ) (fs : List Jet) → order < 256 → AreMultipliersTo a corank order all fs left → length fs ≡ i → i < corank → ((x y : List ℕ) → IsWord x → IsRest y → left ≡ lead i ++ (x ++ y) → ⊥) → (gs : List Jet) → AreJetsOf a corank order gs → all ≡ multipliers_text gs → ⊥
@@ -149,7 +142,7 @@ multiplier_refused a corank order i all left fs word behind small up len lt spli
 pub multipliers_over : (a : Algebra) (corank order : ℕ) (all : List ℕ) (fs : List Jet) (left : Option (Bor (List ℕ))) → AreMultipliersTo a corank order all fs (after_space left) → length fs ≡ corank → is_some left ≡ true → (gs : List Jet) → AreJetsOf a corank order gs → all ≡ multipliers_text gs → ⊥
 multipliers_over a corank order all fs left up len some gs valid e =
     something_left left some
-    (read_done (IsJetOf corank order a) multiplier_piece (AreAll corank) (multiplier_line corank) all fs (after_space left) up (λ zs y w h. no_more corank fs zs y len w) gs [] valid.each (record { long = valid.count; last = refl })
+    (read_done (IsJetOf corank order a) multiplier_piece (AreAll corank) (multiplier_line corank) all fs (after_space left) up (λ zs y w h. no_more corank fs zs len w.long) gs [] valid.each (record { long = valid.count; last = refl })
     (e ∙ multipliers_series gs ∙ sym (append-nil (series multiplier_piece 0 gs)))).1
 
 pub multipliers_found : (a : Algebra) (corank order : ℕ) (all left : List ℕ) (fs : List Jet) → AreMultipliersTo a corank order all fs left → length fs ≡ corank → left ≡ [] → AreJetsOf a corank order fs × (all ≡ multipliers_text fs)
@@ -190,6 +183,10 @@ table_line row bytes e = ap (λ z. 32 ∷ z) (sym e ∙ regroup (monomial_text r
 pub values_rest : (vs : List (Ext Frac)) (y : List ℕ) → IsRest y → IsRest (values_text vs ++ y)
 values_rest [] y h = h
 values_rest (v ∷ vs) y h = refl
+
+-- the values, which are so many elements
+pub row_values : (a : Algebra) (corank order size : ℕ) (row : TableRow (Ext Frac)) → IsTableRowOf a corank order size row → AreElements a size row.values
+row_values a corank order size row h = record { count_is = h.count; elements = h.values }
 
 pub table_behind : (a : Algebra) (corank order size : ℕ) (row : TableRow (Ext Frac)) (bytes : List ℕ) (m : Exp) (behind : Option (Bor (List ℕ))) → IsTableRowOf a corank order size row → table_inside row ≡ bytes → IsResidual corank m → 32 ∷ bytes ≡ 32 ∷ (monomial_text m ++ after_space behind)
     → after_space behind ≡ 32 ∷ ((61 ∷ []) ++ (values_text row.values ++ table_end row))

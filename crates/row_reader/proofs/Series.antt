@@ -1,7 +1,8 @@
 -- Items read one after the other from a line.
-use Rattle.std.proofs.Common.{◌≡◌, ℕ, suc, ◌+◌, List, [], ◌∷◌, ◌++◌, length, refl, sym, ap, ◌∙◌, subst, append_assoc, append-nil, length-append, arith}
+use Rattle.std.proofs.Common.{◌≡◌, ℕ, suc, ◌+◌, List, [], ◌∷◌, ◌++◌, length, refl, sym, ap, ◌∙◌, subst, append_assoc, append-nil, length-append, arith, ◌<◌}
 use Rattle.std.specs.List.{AllByRecursion}
 use Rattle.row_reader.specs.Words.{IsRest}
+use Rattle.jet_poly.proofs.Output.{all-push}
 
 -- the texts of items, each by its number
 abbrev pub series : {A : Type 0} → (ℕ → A → List ℕ) → ℕ → List A → List ℕ
@@ -57,9 +58,13 @@ pub record IsLine {A : Type 0} (piece : ℕ → A → List ℕ) (Whole : List A 
 pub read_start : {A : Type 0} (valid : A → Type 0) (piece : ℕ → A → List ℕ) (Whole : List A → List ℕ → Type 0) (all : List ℕ) → IsReadTo valid piece Whole all [] all
 read_start valid piece Whole all = record { each = tt; sound = refl; complete = λ ys y each whole e. (ys, record { is = refl; text = e; each = each }) }
 
-all_push : {A : Type 0} (P : A → Type 0) (xs : List A) (x : A) → AllByRecursion P xs → P x → AllByRecursion P (xs ++ x ∷ [])
-all_push P [] x h p = (p, tt)
-all_push P (y ∷ xs) x h p = (h.0, all_push P xs x h.1 p)
+-- of so many items no fewer were read, and no more
+pub too_few : {A : Type 0} (count i : ℕ) (xs ys : List A) → length xs ≡ i → i < count → length ys ≡ count → ys ≡ xs → ⊥
+too_few count i xs ys len lt long same = let a = ap length same in omega (arith, a, long, len, lt)
+
+pub no_more : {A : Type 0} (count : ℕ) (xs zs : List A) → length xs ≡ count → length (xs ++ zs) ≡ count → zs ≡ []
+no_more count xs [] len long = refl
+no_more count xs (z ∷ zs) len long = let a = length-append xs (z ∷ zs) in absurd (omega (arith, a, long, len))
 
 module _ {A : Type 0} (valid : A → Type 0) (piece : ℕ → A → List ℕ) (Whole : List A → List ℕ → Type 0) (line : IsLine piece Whole) (all : List ℕ) (xs : List A) (left : List ℕ) (up : IsReadTo valid piece Whole all xs left) where
   more_text : (x : A) (rest : List ℕ) → left ≡ piece (length xs) x ++ rest → all ≡ series piece 0 (xs ++ x ∷ []) ++ rest
@@ -78,7 +83,7 @@ module _ {A : Type 0} (valid : A → Type 0) (piece : ℕ → A → List ℕ) (W
   -- one more item
   pub read_more : (x : A) (rest : List ℕ) → IsItem valid piece (length xs) left x rest → ((ys : List A) (y : List ℕ) → Whole ys y → ys ≡ xs → left ≡ y → ⊥) → IsReadTo valid piece Whole all (xs ++ x ∷ []) rest
   read_more x rest item some = record {
-    each = all_push valid xs x up.each item.item;
+    each = all-push valid xs x up.each item.item;
     sound = more_text x rest item.text;
     complete = λ ys y each whole e. (let k = up.complete ys y each whole e in next_left x rest item ys y (line.ends ys y whole) (some ys y whole) k.0 k.1);
   }

@@ -3,6 +3,7 @@ use Rattle.std.proofs.Common.{◌≡◌, ℕ, zero, suc, ◌+◌, ◌<◌, Bool,
 use Rattle.std.specs.Prelude.{is_some, not, ◌↔◌}
 use Rattle.std.specs.Borrow.{Bor}
 use Rattle.std.specs.List.{AllByRecursion, flat_map, list_all}
+use Rattle.std.specs.Cmp.Derive.{both_true}
 use Rattle.ring_law.specs.declared.fraction.Frac.{Frac}
 use Rattle.ext_algebra.specs.declared.algebra.Algebra.{Algebra}
 use Rattle.ext_algebra.specs.declared.algebra.Ext.{Ext}
@@ -10,16 +11,15 @@ use Rattle.ext_algebra.specs.Algebra.{is_element}
 use Rattle.mono_exp.specs.declared.exponent.Exp.{Exp}
 use Rattle.poly_text.specs.Numbers.{element_text}
 use Rattle.poly_text.specs.Polynomials.{monomial_text}
-use Rattle.cert_text.specs.Text.{spaced}
+use Rattle.cert_text.specs.Text.{spaced, unit_inside, values_text, monomials_text, functional_inside}
 use Rattle.cert_text.specs.WellFormed.{is_zero_element}
 use Rattle.cert_law.proofs.Cut.{head}
 use Rattle.cert_law.proofs.Valid.{all_from, both}
 use Rattle.text_reader.specs.Reading.{IsTextOf}
-use Rattle.text_reader.proofs.ElementTexts.{and_true}
 use Rattle.text_reader.proofs.PieceTexts.{is_empty_of, not_empty_of}
-use Rattle.row_reader.specs.Values.{AreElements, AreResidual, IsFunctionalValue, IsResidual, IsUnitPair, functional_inside, monomials_text, unit_inside, values_text}
+use Rattle.row_reader.specs.Values.{AreElements, AreResidual, IsFunctionalValue, IsResidual, IsUnitPair}
 use Rattle.row_reader.specs.Words.{after_space, IsRest}
-use Rattle.row_reader.proofs.Series.{IsItem, IsLine, IsReadTo, read_done, read_more, read_start, read_stuck, series}
+use Rattle.row_reader.proofs.Series.{IsItem, IsLine, IsReadTo, read_done, read_more, read_start, read_stuck, series, too_few, no_more}
 use Rattle.row_reader.proofs.WordTexts.{element_one, monomial_one, something_left}
 
 -- ---- two values
@@ -43,7 +43,7 @@ unit_end a u bytes value inverse behind rest h e valid split valid2 split2 =
 pub unit_read : (a : Algebra) (value inverse : Ext Frac) (bytes : List ℕ) (behind rest : Option (Bor (List ℕ))) → IsTrue (is_element a value) → 32 ∷ bytes ≡ 32 ∷ (element_text value ++ after_space behind) → IsTrue (is_element a inverse) → after_space behind ≡ 32 ∷ (element_text inverse ++ after_space rest) → after_space rest ≡ []
     → IsTextOf (IsUnitPair a) unit_inside bytes (value, inverse)
 unit_read a value inverse bytes behind rest v split w split2 none = (
-  and_true (is_element a value) (is_element a inverse) v w,
+  both_true v w,
   sym ((head 32 32 bytes (element_text value ++ after_space behind) split).1 ∙ ap (λ z. element_text value ++ z) (split2 ∙ ap (λ z. 32 ∷ (element_text inverse ++ z)) none ∙ ap (λ z. 32 ∷ z) (append-nil (element_text inverse)))),
 )
 
@@ -81,7 +81,7 @@ functional_zero a corank v value r h same test holds = zero_fails (is_zero_eleme
 pub functional_read : (a : Algebra) (corank : ℕ) (m : Exp) (value : Ext Frac) (r : Bool) (bytes : List ℕ) (behind rest : Option (Bor (List ℕ))) → IsResidual corank m → 32 ∷ bytes ≡ 32 ∷ (monomial_text m ++ after_space behind) → IsTrue (is_element a value) → after_space behind ≡ 32 ∷ (element_text value ++ after_space rest) → after_space rest ≡ []
     → r ≡ is_zero_element value → r ≡ false → IsTextOf (IsFunctionalValue a corank) functional_inside bytes (m, value)
 functional_read a corank m value r bytes behind rest v split w split2 none test failed = (
-  and_true _ _ v (and_true (is_element a value) (not (is_zero_element value)) w (ap not (sym test ∙ failed))),
+  both_true v (both_true w (ap not (sym test ∙ failed))),
   sym ((head 32 32 bytes (monomial_text m ++ after_space behind) split).1 ∙ ap (λ z. monomial_text m ++ z) (split2 ∙ ap (λ z. 32 ∷ (element_text value ++ z)) none ∙ ap (λ z. 32 ∷ z) (append-nil (element_text value)))),
 )
 
@@ -89,7 +89,7 @@ functional_read a corank m value r bytes behind rest v split w split2 none test 
 
 pub all_list : {X : Type 0} (p : X → Bool) (xs : List X) → AllByRecursion (λ x. IsTrue (p x)) xs → IsTrue (list_all p xs)
 all_list p [] h = refl
-all_list p (x ∷ xs) h = and_true (p x) (list_all p xs) h.0 (all_list p xs h.1)
+all_list p (x ∷ xs) h = both_true h.0 (all_list p xs h.1)
 
 pub list_each : {X : Type 0} (p : X → Bool) (xs : List X) → IsTrue (list_all p xs) → AllByRecursion (λ x. IsTrue (p x)) xs
 list_each p xs h = all_from p (λ x. IsTrue (p x)) (λ x e. e) xs h
@@ -116,19 +116,12 @@ AreRead a count all es left = IsReadTo (λ e. IsTrue (is_element a e)) value_pie
 pub values_start : (a : Algebra) (count : ℕ) (all : List ℕ) → AreRead a count all [] all
 values_start a count all = read_start (λ e. IsTrue (is_element a e)) value_piece (IsCounted count) all
 
-too_few : {A : Type 0} (count i : ℕ) (xs ys : List A) (y : List ℕ) → length xs ≡ i → i < count → IsCounted count ys y → ys ≡ xs → ⊥
-too_few count i xs ys y len lt w same = let a = ap length same in let b = w.long in omega (arith, a, b, len, lt)
-
-no_more : {A : Type 0} (count : ℕ) (xs zs : List A) (y : List ℕ) → length xs ≡ count → IsCounted count (xs ++ zs) y → zs ≡ []
-no_more count xs [] y len w = refl
-no_more count xs (z ∷ zs) y len w = let a = w.long in let b = length-append xs (z ∷ zs) in absurd (omega (arith, a, b, len))
-
 pub values_more : (a : Algebra) (count i : ℕ) (all left : List ℕ) (es : List (Ext Frac)) (value : Ext Frac) (behind : Option (Bor (List ℕ))) → AreRead a count all es left → length es ≡ i → i < count → IsTrue (is_element a value) → left ≡ 32 ∷ (element_text value ++ after_space behind)
     → AreRead a count all (es ++ value ∷ []) (after_space behind)
 values_more a count i all left es value behind up len lt valid text =
     read_more (λ e. IsTrue (is_element a e)) value_piece (IsCounted count) (value_line count) all es left up value (after_space behind)
     (record { item = valid; text = text; only = λ v y hv ry e. element_one a v value y behind left hv valid ry e text })
-    (λ ys y w same h. too_few count i es ys y len lt w same)
+    (λ ys y w same h. too_few count i es ys len lt w.long same)
 
 counted : (a : Algebra) (count : ℕ) (es : List (Ext Frac)) (y : List ℕ) → AreElements a count es → IsRest y → IsCounted count es y
 counted a count es y h ry = record { long = h.count_is; rest = ry }
@@ -136,12 +129,12 @@ counted a count es y h ry = record { long = h.count_is; rest = ry }
 pub values_stuck : (a : Algebra) (count i : ℕ) (all left : List ℕ) (es : List (Ext Frac)) → AreRead a count all es left → length es ≡ i → i < count → ((e : Ext Frac) (y : List ℕ) → IsTrue (is_element a e) → IsRest y → left ≡ 32 ∷ (element_text e ++ y) → ⊥)
     → (fs : List (Ext Frac)) (y : List ℕ) → AreElements a count fs → IsRest y → all ≡ values_text fs ++ y → ⊥
 values_stuck a count i all left es up len lt none fs y valid ry e =
-    read_stuck (λ e. IsTrue (is_element a e)) value_piece (IsCounted count) (value_line count) all es left up none (λ ys y w same h. too_few count i es ys y len lt w same) fs y (list_each (is_element a) fs valid.elements) (counted a count fs y valid ry)
+    read_stuck (λ e. IsTrue (is_element a e)) value_piece (IsCounted count) (value_line count) all es left up none (λ ys y w same h. too_few count i es ys len lt w.long same) fs y (list_each (is_element a) fs valid.elements) (counted a count fs y valid ry)
     (e ∙ ap (λ z. z ++ y) (values_series 0 fs))
 
 pub values_done : (a : Algebra) (count : ℕ) (all left : List ℕ) (es : List (Ext Frac)) → AreRead a count all es left → length es ≡ count → (fs : List (Ext Frac)) (y : List ℕ) → AreElements a count fs → IsRest y → all ≡ values_text fs ++ y → (es ≡ fs) × (left ≡ y)
 values_done a count all left es up len fs y valid ry e =
-    read_done (λ e. IsTrue (is_element a e)) value_piece (IsCounted count) (value_line count) all es left up (λ zs y w h. no_more count es zs y len w) fs y (list_each (is_element a) fs valid.elements) (counted a count fs y valid ry)
+    read_done (λ e. IsTrue (is_element a e)) value_piece (IsCounted count) (value_line count) all es left up (λ zs y w h. no_more count es zs len w.long) fs y (list_each (is_element a) fs valid.elements) (counted a count fs y valid ry)
     (e ∙ ap (λ z. z ++ y) (values_series 0 fs))
 
 pub values_found : (a : Algebra) (count : ℕ) (all left : List ℕ) (es : List (Ext Frac)) → AreRead a count all es left → length es ≡ count → AreElements a count es × (all ≡ values_text es ++ left)

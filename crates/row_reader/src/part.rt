@@ -6,8 +6,9 @@ ghost use Rattle.ext_algebra.specs.declared.algebra.Ext.{Ext};
 ghost use Rattle.jet_poly.specs.JetTerms.{JetTerms};
 ghost use Rattle.poly_text.specs.Polynomials.{jet_text};
 ghost use Rattle.cert_text.specs.WellFormed.{IsJetOf, has_no_constant as is_without_constant};
+ghost use Rattle.cert_text.specs.Text.{part_inside};
 ghost use Rattle.text_reader.specs.Reading.{IsTextOf, IsNoText};
-ghost use Rattle.row_reader.specs.Rows.{IsNamedPart, part_inside};
+ghost use Rattle.row_reader.specs.Rows.{IsNamedPart};
 ghost use Rattle.row_reader.specs.Words.{after_space};
 
 use crate::word::{take_mark, take_word};

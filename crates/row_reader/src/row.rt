@@ -5,9 +5,9 @@ ghost use Rattle.std.specs.List.{AllByRecursion};
 ghost use Rattle.ring_law.specs.declared.fraction.Frac.{Frac};
 ghost use Rattle.ext_algebra.specs.declared.algebra.Ext.{Ext};
 ghost use Rattle.jet_poly.specs.JetTerms.{JetTerms};
-ghost use Rattle.cert_text.specs.Text.{multipliers_text};
+ghost use Rattle.cert_text.specs.Text.{multipliers_text, mather_inside, table_inside};
+ghost use Rattle.cert_text.specs.WellFormed.{AreJetsOf, IsRowOf, IsTableRowOf};
 ghost use Rattle.text_reader.specs.Reading.{IsTextOf, IsNoText};
-ghost use Rattle.row_reader.specs.Rows.{AreJetsOf, IsRowOf, mather_inside, IsTableRowOf, table_inside};
 ghost use Rattle.row_reader.specs.Words.{after_space, IsRest, lead};
 
 use crate::value::take_values;

@@ -4,10 +4,10 @@ ghost use Rattle.std.specs.Prelude.{◌≡◌, ℕ, ◌++◌, List, ◌↔◌, N
 ghost use Rattle.ring_law.specs.declared.fraction.Frac.{Frac};
 ghost use Rattle.ext_algebra.specs.declared.algebra.Ext.{Ext};
 ghost use Rattle.mono_exp.specs.declared.exponent.Exp.{Exp};
-ghost use Rattle.cert_text.specs.Text.{spaced};
+ghost use Rattle.cert_text.specs.Text.{spaced, unit_inside, values_text, monomials_text, basis_inside, functional_inside};
 ghost use Rattle.cert_text.specs.WellFormed.{is_zero_element};
 ghost use Rattle.text_reader.specs.Reading.{IsTextOf, IsNoText};
-ghost use Rattle.row_reader.specs.Values.{IsUnitPair, unit_inside, AreElements, values_text, AreResidual, monomials_text, basis_inside, IsFunctionalValue, functional_inside};
+ghost use Rattle.row_reader.specs.Values.{IsUnitPair, AreElements, AreResidual, IsFunctionalValue};
 ghost use Rattle.row_reader.specs.Words.{after_space, IsRest};
 
 use crate::word::{take_mark, take_monomial, take_value};

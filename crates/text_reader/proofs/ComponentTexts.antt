@@ -7,7 +7,7 @@ use Rattle.ring_law.specs.declared.fraction.Frac.{Frac}
 use Rattle.ext_algebra.specs.Fractions.{is_frac}
 use Rattle.poly_text.specs.Numbers.{component, fraction_text, is_whole, is_zero_fraction, product_text, signed_text}
 use Rattle.cert_law.specs.Unique.{Starts}
-use Rattle.cert_law.specs.Fields.{IsBody, EndsPiece}
+use Rattle.cert_law.specs.Fields.{IsBody, EndsPiece, zero_fraction}
 use Rattle.cert_law.proofs.Cut.{head, cut}
 use Rattle.cert_law.proofs.Numbers.{IsDigit, all_append, digits, fraction_is}
 use Rattle.cert_law.proofs.Pieces.{piece_one}
@@ -151,24 +151,20 @@ piece_cut power q sign magnitude x y valid free sx sy e =
     let r = cut (λ b. ¬ IsSign b) IsSign (λ b i o. i o) magnitude p.1 x y free p.2.inside sx sy k.1 in
     p.2.is ∙ (λ i. sym k.0 i ∷ sym r.0 i)
 
--- the fraction 0
-abbrev pub zero_of : Frac
-zero_of = record { num = pos 0; den = pos 1 }
+pub zero_valid : IsTrue (is_frac zero_fraction)
+zero_valid = (whole_natural 0 zero_fraction (decimal 0) (omega arith) refl refl).0.0
 
-pub zero_valid : IsTrue (is_frac zero_of)
-zero_valid = (whole_natural 0 zero_of (decimal 0) (omega arith) refl refl).0.0
-
-pub zero_is : (q : Frac) → IsTrue (is_frac q) → q.num ≡ pos 0 → zero_of ≡ q
-zero_is q valid e = sym (fraction_is q zero_of e ((component_by q valid).zero_form e))
+pub zero_is : (q : Frac) → IsTrue (is_frac q) → q.num ≡ pos 0 → zero_fraction ≡ q
+zero_is q valid e = sym (fraction_is q zero_fraction e ((component_by q valid).zero_form e))
 
 -- a component at the front of a sum: 0 and nothing, or its piece
 cases_by : (t : Bool) (q : Frac) (body rest sum : List ℕ) → is_zero_fraction q ≡ t → IsTrue (is_frac q) → sum ≡ flat_map signed_text (cond t [] (product_text q body ∷ [])) ++ rest
-    → ((zero_of ≡ q) × (sum ≡ rest)) ⊎ (IsCoefficient q × (sum ≡ signed_text (product_text q body) ++ rest))
+    → ((zero_fraction ≡ q) × (sum ≡ rest)) ⊎ (IsCoefficient q × (sum ≡ signed_text (product_text q body) ++ rest))
 cases_by true q body rest sum e valid h = inl (zero_is q valid ((Decides-int_eq q.num (pos 0)).0 e), h)
 cases_by false q body rest sum e valid h =
     inr ((valid, λ z. (let yes = (Decides-int_eq q.num (pos 0)).1 z in absurd (cc (e, yes)))), h ∙ ap (λ z. z ++ rest) (append-nil (signed_text (product_text q body))))
 
-pub component_cases : (power : Power) (q : Frac) (rest sum : List ℕ) → IsTrue (is_frac q) → sum ≡ flat_map signed_text (component q (body_of power)) ++ rest → ((zero_of ≡ q) × (sum ≡ rest)) ⊎ (IsCoefficient q × (sum ≡ piece_of power q ++ rest))
+pub component_cases : (power : Power) (q : Frac) (rest sum : List ℕ) → IsTrue (is_frac q) → sum ≡ flat_map signed_text (component q (body_of power)) ++ rest → ((zero_fraction ≡ q) × (sum ≡ rest)) ⊎ (IsCoefficient q × (sum ≡ piece_of power q ++ rest))
 component_cases power q rest sum valid h = cases_by (is_zero_fraction q) q (body_of power) rest sum refl valid h
 
 some_piece : (f x : List ℕ) → Signed f → [] ≡ f ++ x → ⊥
@@ -177,7 +173,7 @@ some_piece (b ∷ bs) x s e = cc
 
 -- ---- what a reader of one component answers
 
-pub empty_found : (power : Power) (q : Frac) (rest : List ℕ) → IsTrue (is_frac q) → [] ≡ flat_map signed_text (component q (body_of power)) ++ rest → (zero_of ≡ q) × ([] ≡ rest)
+pub empty_found : (power : Power) (q : Frac) (rest : List ℕ) → IsTrue (is_frac q) → [] ≡ flat_map signed_text (component q (body_of power)) ++ rest → (zero_fraction ≡ q) × ([] ≡ rest)
 empty_found power q rest valid h =
     elim (component_cases power q rest [] valid h) [
       | inl is ↦ is
@@ -185,7 +181,7 @@ empty_found power q rest valid h =
     ]
 
 pub absent_found : (power : Power) (q : Frac) (rest : List ℕ) (sign : ℕ) (behind magnitude x : List ℕ) → IsTrue (is_frac q) → Follows power rest → behind ≡ magnitude ++ x → AllByRecursion (λ b. ¬ IsSign b) magnitude → Starts IsSign x
-    → IsNoText IsCoefficient (piece_of power) (sign ∷ magnitude) → sign ∷ behind ≡ flat_map signed_text (component q (body_of power)) ++ rest → (zero_of ≡ q) × (sign ∷ behind ≡ rest)
+    → IsNoText IsCoefficient (piece_of power) (sign ∷ magnitude) → sign ∷ behind ≡ flat_map signed_text (component q (body_of power)) ++ rest → (zero_fraction ≡ q) × (sign ∷ behind ≡ rest)
 absent_found power q rest sign behind magnitude x valid follows whole free starts none h =
     elim (component_cases power q rest (sign ∷ behind) valid h) [
       | inl is ↦ is

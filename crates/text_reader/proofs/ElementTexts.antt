@@ -4,20 +4,21 @@ use Rattle.std.specs.Prelude.{codes, is_some}
 use Rattle.std.specs.List.{flat_map}
 use Rattle.std.specs.Borrow.{Bor}
 use Rattle.std.proofs.lemmas.Bool.{eqb-true}
+use Rattle.std.specs.Cmp.Derive.{both_true}
 use Rattle.ring_law.specs.declared.fraction.Frac.{Frac}
 use Rattle.ext_algebra.specs.declared.algebra.Algebra.{Algebra}
 use Rattle.ext_algebra.specs.declared.algebra.Ext.{Ext}
 use Rattle.ext_algebra.specs.Fractions.{is_frac}
 use Rattle.ext_algebra.specs.Algebra.{is_element, is_zero_past}
 use Rattle.poly_text.specs.Numbers.{component, components_text, element_text, fraction_text, is_whole, is_zero_fraction, product_text, signed_text, without_plus}
-use Rattle.cert_law.specs.Fields.{IsSmallElement}
+use Rattle.cert_law.specs.Fields.{IsSmallElement, zero_fraction}
 use Rattle.cert_law.proofs.Elements.{element_one}
 use Rattle.cert_law.proofs.Valid.{both, component_by}
 use Rattle.text_reader.specs.declared.piece.Power.TheVariants as powers
 use Rattle.text_reader.specs.Pieces.{joined, Follows, FollowsAll, AreFractions}
 use Rattle.text_reader.specs.Reading.{IsTextOf}
 use Rattle.text_reader.proofs.PieceTexts.{some_text, some_more}
-use Rattle.text_reader.proofs.ComponentTexts.{zero_of, zero_valid, follows_nothing, follows_more}
+use Rattle.text_reader.proofs.ComponentTexts.{zero_valid, follows_nothing, follows_more}
 
 abbrev pub part0 : Frac → List ℕ
 part0 q = flat_map signed_text (component q [])
@@ -99,8 +100,9 @@ components_front e rest ok h =
 
 -- ---- elements
 
-abbrev zero_element : Ext Frac
-zero_element = record { c0 = zero_of; c1 = zero_of; c2 = zero_of }
+-- the element 0
+abbrev pub zero_element : Ext Frac
+zero_element = record { c0 = zero_fraction; c1 = zero_fraction; c2 = zero_fraction }
 
 zero_text : element_text zero_element ≡ 48 ∷ []
 unfolding element_text components_text
@@ -141,13 +143,9 @@ element_fractions a e h =
     let z = both (is_frac e.c2) (is_zero_past a e) y.1 in
     (record { c0 = x.0; c1 = y.0; c2 = z.0 }, z.1)
 
-pub and_true : (a b : Bool) → a ≡ true → b ≡ true → (a && b) ≡ true
-and_true true b ea eb = eb
-and_true false b ea eb = absurd cc
-
 pub fractions_element : (a : Algebra) (e : Ext Frac) → AreFractions e → IsTrue (is_zero_past a e) → IsTrue (is_element a e)
 unfolding is_element
-fractions_element a e ok past = and_true _ _ ok.c0 (and_true _ _ ok.c1 (and_true _ _ ok.c2 past))
+fractions_element a e ok past = both_true ok.c0 (both_true ok.c1 (both_true ok.c2 past))
 
 pub past_fails : (a : Algebra) (e found : Ext Frac) (bytes : List ℕ) (r : Bool) → IsTrue (is_element a e) → element_text e ≡ bytes → IsTextOf AreFractions element_text bytes found → r ≡ is_zero_past a found → r ≡ false → ⊥
 past_fails a e found bytes r h text is test fails =

@@ -1,13 +1,14 @@
 -- Families by their names.
 use Rattle.std.proofs.Common.{◌≡◌, ◌≢◌, ℕ, ◌<◌, ◌≤◌, ◌^◌, Bool, true, false, ◌&&◌, eqb, ltb, length, List, [], ◌∷◌, ◌++◌, refl, sym, ap, ◌∙◌, append_assoc, subst, arith, IsTrue}
 use Rattle.std.specs.Prelude.{decimal}
+use Rattle.std.specs.Cmp.Derive.{both_true}
 use Rattle.std.specs.List.{AllByRecursion}
 use Rattle.std.proofs.lemmas.Bool.{ltb-true, lt-ltb, leb-true, le-leb}
 use Rattle.normal_forms.specs.declared.family.Family.{Family}
 use Rattle.normal_forms.specs.declared.family.Family.TheVariants as families
 use Rattle.normal_forms.specs.Families.{is_family, has_numbers}
 use Rattle.cert_text.specs.Names.{family_text, family_letters, family_numbers}
-use Rattle.cert_text.specs.WellFormed.{has_small_numbers}
+use Rattle.cert_text.specs.WellFormed.{IsFamily}
 use Rattle.cert_law.proofs.Cut.{head, same_front}
 use Rattle.cert_law.proofs.Numbers.{number_one}
 use Rattle.cert_law.proofs.Valid.{both}
@@ -106,31 +107,23 @@ series_none _ bytes h e a d t = absurd h
 
 -- ---- all families
 
--- the families of the list with small numbers
-abbrev pub IsListed : Family → Type 0
-IsListed f = IsTrue (is_family f && has_small_numbers f)
-
-true_both : (a b : Bool) → a ≡ true → b ≡ true → (a && b) ≡ true
-true_both true b ea eb = eb
-true_both false b ea eb = absurd cc
-
 small_three : (p q r : ℕ) → AreSmall (p, q, r) → (ltb p 256 && (ltb q 256 && ltb r 256)) ≡ true
-small_three p q r h = true_both _ _ (lt-ltb p 256 h.0) (true_both _ _ (lt-ltb q 256 h.1) (lt-ltb r 256 h.2))
+small_three p q r h = both_true (lt-ltb p 256 h.0) (both_true (lt-ltb q 256 h.1) (lt-ltb r 256 h.2))
 
-pub series_listed : (f : Family) → IsSeries f → IsListed f
-series_listed (families.A m) h = true_both _ _ (le-leb 1 m h.0) (lt-ltb m 256 h.1)
-series_listed (families.D m) h = true_both _ _ (le-leb 4 m h.0) (lt-ltb m 256 h.1)
-series_listed (families.T p q r) h = true_both _ _ h.0 (small_three p q r h.1)
+pub series_listed : (f : Family) → IsSeries f → IsFamily f
+series_listed (families.A m) h = both_true (le-leb 1 m h.0) (lt-ltb m 256 h.1)
+series_listed (families.D m) h = both_true (le-leb 4 m h.0) (lt-ltb m 256 h.1)
+series_listed (families.T p q r) h = both_true h.0 (small_three p q r h.1)
 series_listed _ h = absurd h
 
-pub exceptional_listed : (f : Family) → has_numbers f ≡ false → IsListed f
+pub exceptional_listed : (f : Family) → has_numbers f ≡ false → IsFamily f
 exceptional_listed (families.A m) h = absurd cc
 exceptional_listed (families.D m) h = absurd cc
 exceptional_listed (families.T p q r) h = absurd cc
 exceptional_listed _ h = refl
 
 -- a family of the list has no numbers in its name, or it is one of the series
-pub family_none : (f : Family) → IsListed f → (has_numbers f ≡ false → ⊥) → (IsSeries f → ⊥) → ⊥
+pub family_none : (f : Family) → IsFamily f → (has_numbers f ≡ false → ⊥) → (IsSeries f → ⊥) → ⊥
 family_none (families.A m) h e s = let a = both _ _ h in s (leb-true 1 m a.0, ltb-true m 256 a.1)
 family_none (families.D m) h e s = let a = both _ _ h in s (leb-true 4 m a.0, ltb-true m 256 a.1)
 family_none (families.T p q r) h e s =

@@ -5,6 +5,7 @@ use Rattle.std.specs.Fmt.{signed_decimal}
 use Rattle.std.specs.List.{AllByRecursion}
 use Rattle.std.proofs.lemmas.Bool.Decides.{Decides-int_eq}
 use Rattle.std.proofs.lemmas.Int.{ints}
+use Rattle.std.specs.Cmp.Derive.{both_true}
 use Rattle.ring_theory.specs.Gcd.{gcd}
 use Rattle.ring_theory.specs.Rational.{rational}
 use Rattle.ring_theory.proofs.GcdLaws.{coprime_by}
@@ -16,7 +17,7 @@ use Rattle.ext_algebra.proofs.ElementTests.{is_frac-IsFrac}
 use Rattle.poly_text.specs.Numbers.{fraction_text, over_text, is_whole}
 use Rattle.cert_law.proofs.Cut.{head, cut}
 use Rattle.cert_law.proofs.Valid.{both, component_by}
-use Rattle.cert_law.proofs.Numbers.{IsDigit, fraction_is, digits, nonempty, number_one, fraction_one}
+use Rattle.cert_law.proofs.Numbers.{IsDigit, fraction_is, digits, nonempty, number_one, fraction_one, no_minus}
 use Rattle.text_reader.specs.Digits.{is_natural, IsNatural}
 use Rattle.text_reader.specs.Reading.{IsTextOf}
 
@@ -56,16 +57,12 @@ reduced_valid p q r e =
     let is : p ≡ q = fraction_is p q ((Decides-int_eq p.num q.num).0 h.0) ((Decides-int_eq p.den q.den).0 h.1) in
     subst (λ z. IsTrue (is_frac z)) is ((is_frac-IsFrac p).1 r.valid)
 
-test_both : (a b : Bool) → a ≡ true → b ≡ true → (a && b) ≡ true
-test_both true b ea eb = eb
-test_both false b ea eb = absurd cc
-
 -- a valid fraction is what it reduces to
 pub reduced_test : (p q : Frac) → Represents p (ratio q.num q.den) → IsTrue (is_frac q) → IsTrue (same_parts p q)
 reduced_test p q r t =
     let h = valid q t in
     let is : p ≡ q = value_injective p q r.valid h (r.value_is ∙ ratio_is q h) in
-    test_both (int_eq p.num q.num) (int_eq p.den q.den) ((Decides-int_eq p.num q.num).1 (ap (λ (f : Frac). f.num) is)) ((Decides-int_eq p.den q.den).1 (ap (λ (f : Frac). f.den) is))
+    both_true ((Decides-int_eq p.num q.num).1 (ap (λ (f : Frac). f.num) is)) ((Decides-int_eq p.den q.den).1 (ap (λ (f : Frac). f.den) is))
 
 -- ---- fractions that are not negative
 
@@ -176,10 +173,6 @@ opposite_of q = record { num = pos (unsigned_abs q.num); den = q.den }
 opposite_valid : (q : Frac) → IsTrue (is_frac q) → IsNatural (opposite_of q)
 opposite_valid q h = let v = valid q h in ((is_frac-IsFrac (opposite_of q)).1 (record { den_pos = v.den_pos; lowest = v.lowest; num_fits = v.num_fits; den_fits = v.den_fits }), refl)
 
-no_sign : (ds x y : List ℕ) → 0 < length ds → AllByRecursion IsDigit ds → ds ++ x ≡ 45 ∷ y → ⊥
-no_sign [] x y some all e = omega arith
-no_sign (d ∷ ds) x y some all e = let h = head d 45 (ds ++ x) y e in omega (arith, h.0, all.0.0)
-
 -- what stands behind the sign
 pub record IsBehindSign (p : Frac) (rest : List ℕ) : Type 0 where
   pub natural : IsNatural p
@@ -193,7 +186,7 @@ minus_is q rest h e =
     record { natural = opposite_valid q h; nonzero = r.0; text = r.1 }
   where
     by_sign : (z : ℤ) → unsigned_abs z < 2 ^ 127 → signed_decimal z ++ over_text q.den ≡ 45 ∷ rest → (pos (unsigned_abs z) ≢ pos 0) × (decimal (unsigned_abs z) ++ over_text q.den ≡ rest)
-    by_sign (pos n) lt t = absurd (no_sign (decimal n) (over_text q.den) rest (nonempty n (omega (arith, lt))) (digits n (omega (arith, lt))) t)
+    by_sign (pos n) lt t = absurd (no_minus (decimal n) (over_text q.den) rest (nonempty n (omega (arith, lt))) (digits n (omega (arith, lt))) t)
     by_sign (negsuc n) lt t = ((λ z. cc), (head 45 45 (decimal (suc n) ++ over_text q.den) rest t).1)
 
 -- numbers with the texts of the parts are the parts

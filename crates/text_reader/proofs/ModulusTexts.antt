@@ -1,16 +1,17 @@
 -- Moduli by their texts.
 use Rattle.std.proofs.Common.{◌≡◌, ℕ, Bool, true, false, ◌&&◌, List, [], ◌∷◌, ◌++◌, refl, sym, ap, ◌∙◌, append_assoc, append-nil, IsTrue}
+use Rattle.std.specs.Cmp.Derive.{both_true}
 use Rattle.ring_law.specs.declared.fraction.Frac.{Frac}
 use Rattle.ext_algebra.specs.declared.algebra.Algebra.{Algebra}
 use Rattle.ext_algebra.specs.declared.algebra.Algebra.TheVariants as algebras
 use Rattle.ext_algebra.specs.Fractions.{is_frac}
 use Rattle.ext_algebra.specs.Algebra.{is_algebra}
 use Rattle.cert_text.specs.Text.{algebra_text}
-use Rattle.cert_text.specs.WellFormed.{is_extension}
+use Rattle.cert_text.specs.WellFormed.{is_extension, IsExtension}
 use Rattle.cert_law.proofs.Valid.{both}
 use Rattle.text_reader.specs.declared.piece.Power.TheVariants as powers
 use Rattle.text_reader.specs.Pieces.{Follows}
-use Rattle.text_reader.specs.Moduli.{IsQuadratic, IsCubic, IsExtension}
+use Rattle.text_reader.specs.Moduli.{IsQuadratic, IsCubic}
 use Rattle.text_reader.specs.Reading.{IsTextOf, IsNoText}
 use Rattle.text_reader.proofs.ComponentTexts.{follows_nothing, follows_more}
 use Rattle.text_reader.proofs.ElementTexts.{part0, part1, part2}
@@ -64,21 +65,17 @@ last_one = follows_nothing powers.One
 
 -- ---- an extension is of degree 2 or 3
 
-and_true : (a b : Bool) → a ≡ true → b ≡ true → (a && b) ≡ true
-and_true true b ea eb = eb
-and_true false b ea eb = absurd cc
-
 pub quadratic_extension : (a : Algebra) → IsQuadratic a → IsExtension a
 unfolding is_algebra
 quadratic_extension algebras.Rational h = absurd h
-quadratic_extension (algebras.Quadratic m1 m0) h = and_true _ _ (and_true _ _ h.0 h.1) refl
+quadratic_extension (algebras.Quadratic m1 m0) h = both_true (both_true h.0 h.1) refl
 quadratic_extension (algebras.Cubic m2 m1 m0) h = absurd h
 
 pub cubic_extension : (a : Algebra) → IsCubic a → IsExtension a
 unfolding is_algebra
 cubic_extension algebras.Rational h = absurd h
 cubic_extension (algebras.Quadratic m1 m0) h = absurd h
-cubic_extension (algebras.Cubic m2 m1 m0) h = and_true _ _ (and_true _ _ h.0 (and_true _ _ h.1 h.2)) refl
+cubic_extension (algebras.Cubic m2 m1 m0) h = both_true (both_true h.0 (both_true h.1 h.2)) refl
 
 pub extension_none : (a : Algebra) (bytes : List ℕ) → IsExtension a → algebra_text a ≡ bytes → IsNoText IsQuadratic algebra_text bytes → IsNoText IsCubic algebra_text bytes → ⊥
 unfolding is_algebra
@@ -92,8 +89,8 @@ extension_none (algebras.Cubic m2 m1 m0) bytes h e two three =
 pub algebra_none : (a : Algebra) (bytes : List ℕ) → IsTrue (is_algebra a) → algebra_text a ≡ bytes → (bytes ≡ 81 ∷ [] → ⊥) → IsNoText IsExtension algebra_text bytes → ⊥
 unfolding algebra_text
 algebra_none algebras.Rational bytes h e other none = other (sym e)
-algebra_none (algebras.Quadratic m1 m0) bytes h e other none = none (algebras.Quadratic m1 m0) (and_true _ _ h refl) e
-algebra_none (algebras.Cubic m2 m1 m0) bytes h e other none = none (algebras.Cubic m2 m1 m0) (and_true _ _ h refl) e
+algebra_none (algebras.Quadratic m1 m0) bytes h e other none = none (algebras.Quadratic m1 m0) (both_true h refl) e
+algebra_none (algebras.Cubic m2 m1 m0) bytes h e other none = none (algebras.Cubic m2 m1 m0) (both_true h refl) e
 
 pub rational_read : (bytes : List ℕ) → bytes ≡ 81 ∷ [] → IsTextOf (λ a. IsTrue (is_algebra a)) algebra_text bytes algebras.Rational
 unfolding algebra_text is_algebra

@@ -10,20 +10,17 @@ use Rattle.cert_law.proofs.Monomials.{factors_from, present, starred_is}
 use Rattle.cert_law.proofs.Series.{power_one}
 use Rattle.cert_law.proofs.Valid.{both, monomial_by}
 use Rattle.text_reader.specs.Reading.{IsTextOf}
+use Rattle.text_reader.specs.Terms.{one_monomial}
 
--- the monomial 1
-abbrev pub unit : Exp
-unit = record { e = 0 ∷ 0 ∷ 0 ∷ 0 ∷ 0 ∷ 0 ∷ 0 ∷ 0 ∷ [] }
-
-unit_text : monomial_text unit ≡ 49 ∷ []
+one_text : monomial_text one_monomial ≡ 49 ∷ []
 unfolding monomial_in factors_text new_names
-unit_text = refl
+one_text = refl
 
 zero_small : 0 < 256
 zero_small = omega arith
 
-pub unit_read : (bytes : List ℕ) → bytes ≡ 49 ∷ [] → IsTextOf IsMonomial monomial_text bytes unit
-unit_read bytes e = (record { eight = refl; fit = (zero_small, (zero_small, (zero_small, (zero_small, (zero_small, (zero_small, (zero_small, (zero_small, tt)))))))) }, unit_text ∙ sym e)
+pub one_read : (bytes : List ℕ) → bytes ≡ 49 ∷ [] → IsTextOf IsMonomial monomial_text bytes one_monomial
+one_read bytes e = (record { eight = refl; fit = (zero_small, (zero_small, (zero_small, (zero_small, (zero_small, (zero_small, (zero_small, (zero_small, tt)))))))) }, one_text ∙ sym e)
 
 -- factors begin with a star
 step : (t : Bool) (d e : ℕ) (more : List ℕ) → (more ≡ []) ⊎ ((x : List ℕ) × (more ≡ 42 ∷ x)) → (cond t [] (present d e) ++ more ≡ []) ⊎ ((x : List ℕ) × (cond t [] (present d e) ++ more ≡ 42 ∷ x))

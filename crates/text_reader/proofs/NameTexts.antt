@@ -3,6 +3,7 @@ use Rattle.std.proofs.Common.{◌≡◌, ℕ, ◌≤◌, Bool, true, false, ◌&
 use Rattle.std.specs.Prelude.{min}
 use Rattle.std.specs.List.{list_all}
 use Rattle.std.proofs.lemmas.Bool.{leb-true}
+use Rattle.std.specs.Cmp.Derive.{both_true}
 use Rattle.line_syntax.specs.Syntax.{is_name, is_letter, is_digit}
 use Rattle.poly_text.specs.declared.name.Name.{Name}
 use Rattle.poly_text.specs.Polynomials.{name_text}
@@ -18,17 +19,13 @@ name_short (c ∷ cs) e =
     let h = both (list_all is_digit cs) (leb (length cs) 3) (both (is_letter c) (list_all is_digit cs && leb (length cs) 3) e).1 in
     let short = leb-true (length cs) 3 h.1 in omega (arith, short)
 
-and_true : (a : Bool) → a ≡ true → (a && true) ≡ true
-and_true true e = refl
-and_true false e = absurd cc
-
 -- a name with zeros behind it is valid
 pub padded_valid : (text : List ℕ) → is_name text ≡ true → IsTextOf (λ name. IsTrue (is_valid_name name)) name_text text (padded text)
 padded_valid [] e = absurd cc
-padded_valid (a ∷ []) e = (and_true (is_name (a ∷ [])) e, refl)
-padded_valid (a ∷ b ∷ []) e = (and_true (is_name (a ∷ b ∷ [])) e, refl)
-padded_valid (a ∷ b ∷ c ∷ []) e = (and_true (is_name (a ∷ b ∷ c ∷ [])) e, refl)
-padded_valid (a ∷ b ∷ c ∷ d ∷ []) e = (and_true (is_name (a ∷ b ∷ c ∷ d ∷ [])) e, refl)
+padded_valid (a ∷ []) e = (both_true e refl, refl)
+padded_valid (a ∷ b ∷ []) e = (both_true e refl, refl)
+padded_valid (a ∷ b ∷ c ∷ []) e = (both_true e refl, refl)
+padded_valid (a ∷ b ∷ c ∷ d ∷ []) e = (both_true e refl, refl)
 padded_valid (a ∷ b ∷ c ∷ d ∷ x ∷ xs) e = absurd (let short = name_short (a ∷ b ∷ c ∷ d ∷ x ∷ xs) e in omega (arith, short))
 
 -- the text of a valid name is a name

@@ -4,8 +4,9 @@ use Rattle.std.specs.Prelude.{not, sum, Result, Ok, Err, IfOk, IfSome}
 use Rattle.std.specs.Borrow.{Bor}
 use Rattle.std.specs.List.{AllByRecursion, flat_map, list_all}
 use Rattle.std.proofs.lemmas.Bool.{leb-true}
-use Rattle.std.proofs.lemmas.Bool.Decides.{Decides-int_eq}
+use Rattle.std.specs.Cmp.Derive.{both_true}
 use Rattle.std.proofs.lemmas.List.Concat.{flat_map-append}
+use Rattle.std.proofs.lemmas.List.Folds.{list_all-append}
 use Rattle.ring_law.specs.declared.fraction.Frac.{Frac}
 use Rattle.ext_algebra.specs.declared.algebra.Algebra.{Algebra}
 use Rattle.ext_algebra.specs.declared.algebra.Ext.{Ext}
@@ -13,13 +14,13 @@ use Rattle.ext_algebra.specs.Algebra.{is_element, is_zero_past}
 use Rattle.ext_algebra.specs.Fractions.{is_frac}
 use Rattle.mono_exp.specs.declared.exponent.Exp.{Exp}
 use Rattle.mono_exp.specs.Exponents.{is_before}
-use Rattle.mono_exp.proofs.Counting.{before-place, place-before}
 use Rattle.jet_poly.specs.JetTerms.{JetTerms, AllAfter, IsRising}
 use Rattle.jet_poly.proofs.Output.{rising-push}
 use Rattle.poly_text.specs.Numbers.{components_text, element_text, is_zero_fraction, product_text, signed_text, without_plus}
 use Rattle.poly_text.specs.Polynomials.{is_one, jet_text, new_names, polynomial_in, term_in}
+use Rattle.normal_forms.proofs.Insertion.{before-trans}
 use Rattle.cert_text.specs.WellFormed.{is_monomial_in, is_term_of, is_zero_element, IsJetOf}
-use Rattle.cert_law.specs.Fields.{IsHigher, IsMonomial}
+use Rattle.cert_law.specs.Fields.{IsHigher, IsMonomial, zero_fraction}
 use Rattle.cert_law.specs.Unique.{Starts}
 use Rattle.cert_law.proofs.Elements as elements
 use Rattle.cert_law.proofs.Jets.{decode, higher_lump, higher_text, lump_of, outer, zeros_same}
@@ -32,9 +33,9 @@ use Rattle.text_reader.specs.declared.piece.Power.TheVariants as powers
 use Rattle.text_reader.specs.Pieces.{AreFractions, Follows, FollowsAll, IsCoefficient, IsSign, body_of, joined, piece_of}
 use Rattle.text_reader.specs.Reading.{IsNoText, IsTextOf}
 use Rattle.text_reader.specs.Terms.{AreTermsOf, IsHigherTerm, IsLongTerm, IsSimpleTerm, constant_terms, is_after_last, one_monomial, term_text, terms_text}
-use Rattle.text_reader.proofs.ComponentTexts.{body_is, ends_piece, follows_nothing, starts_signed, zero_is, zero_of, zero_valid}
-use Rattle.text_reader.proofs.ElementTexts.{and_true, components_front, element_fractions, element_is, HasFront, first, nothing, some_product, sum_back, without_signed}
-use Rattle.text_reader.proofs.TermTexts.{factors_there, higher_of, long_is, simple_is, simple_product, term_cases, term_one}
+use Rattle.text_reader.proofs.ComponentTexts.{body_is, ends_piece, follows_nothing, starts_signed, zero_is, zero_valid}
+use Rattle.text_reader.proofs.ElementTexts.{components_front, element_fractions, element_is, HasFront, first, nothing, some_product, sum_back, without_signed, zero_element}
+use Rattle.text_reader.proofs.TermTexts.{factors_there, higher_of, long_is, simple_is, simple_product, term_cases, term_one, zero_by}
 
 abbrev Term : Type 0
 Term = Exp × Ext Frac
@@ -106,12 +107,6 @@ last_by [] t m = refl
 last_by (u ∷ []) t m = refl
 last_by (u ∷ v ∷ ts) t m = last_by (v ∷ ts) t m
 
-before_trans : (a b c : List ℕ) → length a ≡ 8 → length b ≡ 8 → length c ≡ 8 → is_before a b ≡ true → is_before b c ≡ true → is_before a c ≡ true
-before_trans a b c la lb lc h k =
-    let p = before-place a b (la ∙ sym lb) h in
-    let q = before-place b c (lb ∙ sym lc) k in
-    place-before a c (la ∙ sym lc) (omega (arith, p, q))
-
 abbrev IsEight : Term → Type 0
 IsEight t = length t.0.e ≡ 8
 
@@ -120,17 +115,13 @@ all_before [] t eights eight rising h = tt
 all_before (u ∷ []) t eights eight rising h = (h, tt)
 all_before (u ∷ v ∷ ts) t eights eight rising h =
     let more = all_before (v ∷ ts) t eights.1 eight rising.1 h in
-    (before_trans u.0.e v.0.e t.0.e eights.0 eights.1.0 eight rising.0.0 more.0, more)
+    (before-trans u.0.e v.0.e t.0.e eights.0 eights.1.0 eight rising.0.0 more.0, more)
 
 -- of rising terms each stands after those before it
 pub after_there : (ts : List Term) (t : Term) (more : List Term) → IsRising (ts ++ t ∷ more) → is_after_last ts t.0 ≡ true
 after_there [] t more rising = refl
 after_there (u ∷ []) t more rising = rising.0.0
 after_there (u ∷ v ∷ ts) t more rising = after_there (v ∷ ts) t more rising.1
-
-list_all-append : (p : Term → Bool) (xs ys : List Term) → list_all p xs ≡ true → list_all p ys ≡ true → list_all p (xs ++ ys) ≡ true
-list_all-append p [] ys a b = b
-list_all-append p (x ∷ xs) ys a b = let h = both (p x) (list_all p xs) a in and_true (p x) (list_all p (xs ++ ys)) h.0 (list_all-append p xs ys h.1 b)
 
 all_there : (p : Term → Bool) (xs : List Term) (t : Term) (more : List Term) → list_all p (xs ++ t ∷ more) ≡ true → p t ≡ true
 all_there p [] t more h = (both (p t) (list_all p more) h).0
@@ -146,13 +137,13 @@ terms_more n order a ts t r lt are test holds =
     let h = both (is_term_of n order a t) (is_after_last ts t.0) (sym test ∙ holds) in
     let v = valid_term n order a t lt h.0 in record {
       rising = rising-push ts t are.rising (all_before ts t (eights_of n order a ts lt are.valid) v.monomial.eight are.rising h.1);
-      valid = list_all-append (is_term_of n order a) ts (t ∷ []) are.valid (and_true (is_term_of n order a t) true h.0 refl);
+      valid = list_all-append (is_term_of n order a) ts (t ∷ []) ∙ both_true are.valid (both_true h.0 refl);
     }
 
 -- the next term of valid terms passes the test
 pub next_passes : (n order : ℕ) (a : Algebra) (ts : List Term) (t : Term) (more : List Term) (r : Bool) → AreTermsOf n order a (ts ++ t ∷ more) → r ≡ (is_term_of n order a t && is_after_last ts t.0) → r ≡ false → ⊥
 next_passes n order a ts t more r are test failed =
-    let holds = and_true (is_term_of n order a t) (is_after_last ts t.0) (all_there (is_term_of n order a) ts t more are.valid) (after_there ts t more are.rising) in
+    let holds = both_true (all_there (is_term_of n order a) ts t more are.valid) (after_there ts t more are.rising) in
     absurd (cc (holds, test, failed))
 
 -- ---- the texts of terms
@@ -213,18 +204,12 @@ follows_power power (t ∷ ts) h = record {
 pub follows_terms : (ts : List Term) → AllByRecursion IsHigherTerm ts → FollowsAll (terms_text ts)
 follows_terms ts h = record { one = follows_power powers.One ts h; t = follows_power powers.T ts h; square = follows_power powers.Square ts h }
 
-abbrev zero_element : Ext Frac
-zero_element = record { c0 = zero_of; c1 = zero_of; c2 = zero_of }
-
 zero_fractions : AreFractions zero_element
 zero_fractions = record { c0 = zero_valid; c1 = zero_valid; c2 = zero_valid }
 
 zero_components : components_text zero_element ≡ []
 unfolding components_text
 zero_components = refl
-
-zero_by : (q : Frac) → IsTrue (is_frac q) → is_zero_fraction q ≡ true → zero_of ≡ q
-zero_by q valid e = zero_is q valid ((Decides-int_eq q.num (pos 0)).0 e)
 
 element_zero : (e : Ext Frac) → AreFractions e → is_zero_element e ≡ true → zero_element ≡ e
 element_zero e ok z =
@@ -281,7 +266,7 @@ constant_valid n order a us e more are is = by_test (is_zero_element e) refl
     by_test true z = record { rising = tt; valid = refl }
     by_test false z =
         let there : AreTermsOf n order a ((one_monomial, e) ∷ more) = subst (λ (t : Bool). AreTermsOf n order a (cond t [] ((one_monomial, e) ∷ []) ++ more)) z here in
-        record { rising = (tt, tt); valid = and_true (is_term_of n order a (one_monomial, e)) true (all_there (is_term_of n order a) [] (one_monomial, e) more there.valid) refl }
+        record { rising = (tt, tt); valid = both_true (all_there (is_term_of n order a) [] (one_monomial, e) more there.valid) refl }
 
 pub no_constant : (n order : ℕ) (a : Algebra) (e : Ext Frac) (z : Bool) → z ≡ is_zero_element e → z ≡ true → ([] ≡ constant_terms e) × AreTermsOf n order a []
 no_constant n order a e z is holds = (ap (λ (t : Bool). cond t [] ((one_monomial, e) ∷ [])) (sym holds ∙ is), record { rising = tt; valid = refl })
@@ -289,7 +274,7 @@ no_constant n order a e z is holds = (ap (λ (t : Bool). cond t [] ((one_monomia
 pub some_constant : (n order : ℕ) (a : Algebra) (e : Ext Frac) (z r : Bool) (ts : List Term) → ts ≡ (one_monomial, e) ∷ [] → z ≡ is_zero_element e → z ≡ false → r ≡ is_term_of n order a (one_monomial, e) → r ≡ true → (ts ≡ constant_terms e) × AreTermsOf n order a ts
 some_constant n order a e z r ts made is failed test holds = (
   made ∙ ap (λ (t : Bool). cond t [] ((one_monomial, e) ∷ [])) (sym failed ∙ is),
-  subst (AreTermsOf n order a) (sym made) (record { rising = (tt, tt); valid = and_true (is_term_of n order a (one_monomial, e)) true (sym test ∙ holds) refl }),
+  subst (AreTermsOf n order a) (sym made) (record { rising = (tt, tt); valid = both_true (sym test ∙ holds) refl }),
 )
 
 pub bad_constant : (n order : ℕ) (a : Algebra) (e : Ext Frac) (z r : Bool) → z ≡ is_zero_element e → z ≡ false → r ≡ is_term_of n order a (one_monomial, e) → r ≡ false → AreTermsOf n order a (constant_terms e) → ⊥

@@ -12,7 +12,7 @@ use Rattle.mono_exp.specs.declared.exponent.Exp.{Exp}
 use Rattle.poly_text.specs.Numbers.{component_count_of, components_text, element_text, is_zero_fraction, one_unless_zero, product_text, signed_text, without_plus}
 use Rattle.poly_text.specs.Polynomials.{factors_text, is_one, new_names}
 use Rattle.cert_text.specs.WellFormed.{is_zero_element}
-use Rattle.cert_law.specs.Fields.{Element, IsInside, IsMonomial, IsTerm, IsHigher}
+use Rattle.cert_law.specs.Fields.{Element, IsInside, IsMonomial, IsTerm, IsHigher, zero_fraction}
 use Rattle.cert_law.specs.Unique.{Starts}
 use Rattle.cert_law.proofs.Cut.{head, cut, same_front}
 use Rattle.cert_law.proofs.Elements.{pieces_of}
@@ -21,6 +21,7 @@ use Rattle.cert_law.proofs.Jets.{higher_lump, higher_text, lump_of, lump_tells, 
 use Rattle.cert_law.proofs.Lumps.{lump_one, lump_text}
 use Rattle.cert_law.proofs.Monomials.{starred}
 use Rattle.cert_law.proofs.Numbers.{IsDigit, all_append}
+use Rattle.cert_law.proofs.Series.{no_factors}
 use Rattle.cert_law.proofs.Terms.{lump_by}
 use Rattle.cert_law.proofs.Valid.{all_to}
 use Rattle.text_reader.specs.declared.piece.Power.{Power}
@@ -28,9 +29,8 @@ use Rattle.text_reader.specs.declared.piece.Power.TheVariants as powers
 use Rattle.text_reader.specs.Pieces.{AreFractions, IsCoefficient, IsLetters, IsSign, body_of, joined}
 use Rattle.text_reader.specs.Reading.{IsNoText, IsTextOf}
 use Rattle.text_reader.specs.Terms.{multiple, IsLong, simple_text, term_text, IsHigherTerm, IsSimpleTerm, IsLongTerm, IsVariable}
-use Rattle.text_reader.proofs.ComponentTexts.{zero_of, zero_valid, zero_is, ends_piece, Admits, lettered, ends_with, IsBefore, not_sign, unsigned, piece_shape}
+use Rattle.text_reader.proofs.ComponentTexts.{zero_valid, zero_is, ends_piece, Admits, lettered, ends_with, IsBefore, not_sign, unsigned, piece_shape}
 use Rattle.text_reader.proofs.ElementTexts.{element_is, element_same, small, part0, part1, part2, parts_are}
-use Rattle.text_reader.proofs.MonomialTexts.{unit}
 use Rattle.text_reader.proofs.Places.{byte_some}
 use Rattle.text_reader.proofs.Visible.{cut_at, unsplit}
 
@@ -100,7 +100,7 @@ unless_zero q t e = ap (λ (z : Bool). cond z 0 1) e
 coefficient_is : (q : Frac) → IsTrue (is_frac q) → is_zero_fraction q ≡ false → IsCoefficient q
 coefficient_is q valid e = (valid, elements.nonzero q e)
 
-zero_by : (q : Frac) → IsTrue (is_frac q) → is_zero_fraction q ≡ true → zero_of ≡ q
+pub zero_by : (q : Frac) → IsTrue (is_frac q) → is_zero_fraction q ≡ true → zero_fraction ≡ q
 zero_by q valid e = zero_is q valid ((Decides-int_eq q.num (pos 0)).0 e)
 
 long_by : (z0 z1 z2 : Bool) (t : Term) → is_zero_fraction t.1.c0 ≡ z0 → is_zero_fraction t.1.c1 ≡ z1 → is_zero_fraction t.1.c2 ≡ z2 → IsHigherTerm t → 1 < count_by z0 z1 z2 → IsLongTerm t
@@ -190,19 +190,12 @@ term_one t u x y ht hu sx sy e =
 
 -- ---- the factors of a monomial other than 1
 
-unit_starred : starred unit ≡ []
-unfolding factors_text new_names
-unit_starred = refl
-
-pub one_starred : (m : Exp) → IsMonomial m → is_one m ≡ true → starred m ≡ []
-one_starred m is e = ap (λ (es : List ℕ). factors_text new_names es) (zeros_same m.e unit.e is.eight e refl) ∙ unit_starred
-
 pub not_one : (m : Exp) (x : List ℕ) → IsMonomial m → starred m ≡ 42 ∷ x → is_one m ≡ false
 not_one m x is e = by_test (is_one m) refl
   where
     by_test : (t : Bool) → is_one m ≡ t → is_one m ≡ false
     by_test false h = h
-    by_test true h = absurd (let none = one_starred m is h in cc (none, e))
+    by_test true h = absurd (let none = no_factors m is h in cc (none, e))
 
 -- a star and a u at the front
 pub factors_there : (m : Exp) → IsMonomial m → is_one m ≡ false → (r : List ℕ) × (starred m ≡ 42 ∷ 117 ∷ r)

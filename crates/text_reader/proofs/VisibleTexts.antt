@@ -16,23 +16,24 @@ use Rattle.poly_text.specs.Numbers.{components_text, element_text, fraction_text
 use Rattle.poly_text.specs.Polynomials.{is_one, jet_text, monomial_in, monomial_text, name_text, polynomial_in, without_star}
 use Rattle.cert_text.specs.Text.{algebra_text}
 use Rattle.cert_text.specs.WellFormed.{is_monomial_in, is_valid_name, IsJetOf}
-use Rattle.cert_law.specs.Fields.{IsInside, IsMonomial}
+use Rattle.cert_law.specs.Fields.{IsInside, IsMonomial, zero_fraction}
 use Rattle.cert_law.proofs.Jets.{factors_inside, starred_front}
 use Rattle.cert_law.proofs.Monomials.{starred}
 use Rattle.cert_law.proofs.Numbers.{IsDigit, all_append}
 use Rattle.cert_law.proofs.Parts.{IsNameByte, name_by, name_bytes}
+use Rattle.cert_law.proofs.Series.{no_factors}
 use Rattle.cert_law.proofs.Valid.{all_to, both}
 use Rattle.text_reader.specs.declared.piece.Power.TheVariants as powers
 use Rattle.text_reader.specs.Digits.{is_natural, IsNatural}
 use Rattle.text_reader.specs.Pieces.{AreFractions, IsSign}
 use Rattle.text_reader.specs.Terms.{IsHigherTerm, IsLongTerm, IsSimpleTerm, constant_terms, term_text, terms_text}
-use Rattle.text_reader.proofs.ComponentTexts.{Admits, natural_all, zero_of}
+use Rattle.text_reader.proofs.ComponentTexts.{Admits, natural_all}
 use Rattle.text_reader.proofs.ElementTexts.{element_fractions, part0, part1, part2, parts_are}
 use Rattle.text_reader.proofs.Fractions.{minus_is, opposite_of}
 use Rattle.text_reader.proofs.ModulusTexts.{cubic_text, quadratic_text}
 use Rattle.text_reader.proofs.MonomialTexts.{monomial_valid}
 use Rattle.text_reader.proofs.PolynomialTexts.{constant_more, jet_terms, split_constant}
-use Rattle.text_reader.proofs.TermTexts.{component_all, element_all, factors_there, long_is, simple_shape, term_cases, one_starred, without_all}
+use Rattle.text_reader.proofs.TermTexts.{component_all, element_all, factors_there, long_is, simple_shape, term_cases, without_all}
 use Rattle.text_reader.proofs.Visible.{IsVisible}
 
 visible : Admits IsVisible
@@ -109,7 +110,7 @@ unfolding monomial_in
 visible-power m is = behind_star (starred m) (by_test (is_one m) refl)
   where
     by_test : (t : Bool) → is_one m ≡ t → AllByRecursion IsVisible (starred m)
-    by_test true e = subst (AllByRecursion IsVisible) (sym (one_starred m is e)) tt
+    by_test true e = subst (AllByRecursion IsVisible) (sym (no_factors m is e)) tt
     by_test false e = factors_visible m is e
 
 pub visible-monomial : (n most : ℕ) (m : Exp) → most < 256 → IsTrue (is_monomial_in n m && nat_le (sum m.e) most) → AllByRecursion IsVisible (monomial_text m)

@@ -1,12 +1,11 @@
 -- The algebras that a modulus gives.
-use Rattle.std.specs.Prelude.{IsTrue, ◌&&◌}
+use Rattle.std.specs.Prelude.{IsTrue}
 use Rattle.ext_algebra.specs.declared.algebra.Algebra.{Algebra}
 use Rattle.ext_algebra.specs.declared.algebra.Algebra.TheVariants as algebras
 use Rattle.ext_algebra.specs.Fractions.{is_frac}
-use Rattle.ext_algebra.specs.Algebra.{is_algebra, is_element}
+use Rattle.ext_algebra.specs.Algebra.{is_element}
 use Rattle.normal_forms.specs.declared.modulus_line.ModulusLine.{ModulusLine}
 use Rattle.normal_forms.specs.declared.modulus_line.ModulusLine.TheVariants as lines
-use Rattle.cert_text.specs.WellFormed.{is_extension}
 
 -- a modulus of degree 2 with valid coefficients
 abbrev pub IsQuadratic : Algebra → Type 0
@@ -19,10 +18,6 @@ abbrev pub IsCubic : Algebra → Type 0
 IsCubic algebras.Rational = ⊥
 IsCubic (algebras.Quadratic m1 m0) = ⊥
 IsCubic (algebras.Cubic m2 m1 m0) = IsTrue (is_frac m2) × IsTrue (is_frac m1) × IsTrue (is_frac m0)
-
--- a valid algebra other than Q
-abbrev pub IsExtension : Algebra → Type 0
-IsExtension a = IsTrue (is_algebra a && is_extension a)
 
 -- a line with a valid value or j invariant
 abbrev pub IsNumberLine : Algebra → ModulusLine → Type 0

@@ -10,13 +10,10 @@ use Rattle.poly_text.specs.Numbers.{component_count_of, product_text, signed_tex
 use Rattle.poly_text.specs.Polynomials.{is_one, new_names, term_in}
 use Rattle.jet_poly.specs.JetTerms.{IsRising}
 use Rattle.cert_text.specs.WellFormed.{is_term_of, is_zero_element}
-use Rattle.cert_law.specs.Fields.{IsMonomial}
+use Rattle.cert_law.specs.Fields.{IsMonomial, zero_fraction}
 use Rattle.text_reader.specs.declared.piece.Power.{Power}
 use Rattle.text_reader.specs.declared.piece.Power.TheVariants as powers
 use Rattle.text_reader.specs.Pieces.{AreFractions, IsCoefficient, body_of}
-
-abbrev pub zero_fraction : Frac
-zero_fraction = record { num = pos 0; den = pos 1 }
 
 -- q times a power of t
 abbrev pub multiple : Power → Frac → Ext Frac

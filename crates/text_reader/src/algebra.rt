@@ -5,9 +5,9 @@ ghost use Rattle.std.specs.List.{flat_map};
 ghost use Rattle.ext_algebra.specs.Algebra.{is_algebra};
 ghost use Rattle.ext_algebra.specs.declared.algebra.Algebra.TheVariants.{Rational};
 ghost use Rattle.cert_text.specs.Text.{algebra_text};
-ghost use Rattle.cert_text.specs.WellFormed.{is_extension};
+ghost use Rattle.cert_text.specs.WellFormed.{is_extension, IsExtension};
 ghost use Rattle.text_reader.specs.Reading.{IsTextOf, IsNoText};
-ghost use Rattle.text_reader.specs.Moduli.{IsQuadratic, IsCubic, IsExtension};
+ghost use Rattle.text_reader.specs.Moduli.{IsQuadratic, IsCubic};
 
 use crate::piece::{Power, take_component};
 use crate::splitting::{first_and_rest, is_text, strip_front};

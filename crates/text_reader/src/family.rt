@@ -3,7 +3,7 @@
 ghost use Rattle.std.specs.Prelude.{◌≡◌, ℕ, ◌<◌, ◌≤◌, List, ◌++◌, ◌∷◌, [], true, false, IsTrue, None, IfSome, ◌&&◌, decimal};
 ghost use Rattle.normal_forms.specs.Families.{is_family, has_numbers};
 ghost use Rattle.cert_text.specs.Names.{family_text};
-ghost use Rattle.cert_text.specs.WellFormed.{has_small_numbers};
+ghost use Rattle.cert_text.specs.WellFormed.{has_small_numbers, IsFamily};
 ghost use Rattle.text_reader.specs.Reading.{IsTextOf, IsNoText};
 ghost use Rattle.text_reader.specs.Numbers.{three_text, AreSmall, IsHyperbolic, IsSeries};
 
@@ -144,8 +144,8 @@ fn read_series(bytes: &[u8]) -> Option<Family>
 
 /// A family of the list by its name, as `E7`, `D4` or `T(2,3,7)`; its numbers are at most 255.
 pub fn read_family(bytes: &[u8]) -> Option<Family>
-    ensures some { IfSome result (IsTextOf (λ f. IsTrue (is_family f && has_small_numbers f)) family_text bytes.now) }
-    ensures none { result ≡ None → IsNoText (λ f. IsTrue (is_family f && has_small_numbers f)) family_text bytes.now }
+    ensures some { IfSome result (IsTextOf IsFamily family_text bytes.now) }
+    ensures none { result ≡ None → IsNoText IsFamily family_text bytes.now }
 {
     match read_exceptional(bytes) {
         Some(family) => Some(family),

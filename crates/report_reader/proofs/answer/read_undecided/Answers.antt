@@ -1,14 +1,15 @@
 use Rattle.std.proofs.Common.{refl}
+use Rattle.std.proofs.lemmas.Result.{IfOk-weaker}
 use Rattle.cert_text.specs.Text.{answer_text}
 use Rattle.cert_text.specs.WellFormed.{IsWellFormedLimit}
 use Rattle.report_reader.specs.Answers.{IsFromKind, limit_rest}
-use Rattle.report_reader.proofs.Found.{ok_map, err_map}
+use Rattle.report_reader.proofs.Found.{err_map}
 use Rattle.report_reader.proofs.Stops.{halt_map}
 use Rattle.report_reader.proofs.AnswerLines.{stop_in_limit, limit_is, stop_later, limit_apart, later_is}
 use Rattle.report_reader.proofs.answer.read_undecided.Goals as goal
 
 pub returns-in-None-clause-ok : goal.returns-in-None-clause-ok
-returns-in-None-clause-ok c = ok_map c.read_last.result _ _ (λ p h. (later_is 3 p.0 h.0, h.1)) c.read_last.ensures.ok
+returns-in-None-clause-ok c = IfOk-weaker c.read_last.result _ _ (λ p h. (later_is 3 p.0 h.0, h.1)) c.read_last.ensures.ok
 
 pub returns-in-None-clause-halt : goal.returns-in-None-clause-halt
 returns-in-None-clause-halt c = err_map c.read_last.result (IsFromKind 4) answer_text c.args.bytes.now (IsFromKind 3) answer_text c.args.bytes.now

@@ -1,15 +1,16 @@
 use Rattle.std.proofs.Common.{refl}
+use Rattle.std.proofs.lemmas.Result.{IfOk-weaker}
 use Rattle.cert_text.specs.declared.word.Word.TheVariants as words
 use Rattle.cert_text.specs.Text.{answer_text, carried_text}
 use Rattle.cert_text.specs.WellFormed.{IsWellFormedCarried}
 use Rattle.report_reader.specs.Answers.{IsFromKind}
-use Rattle.report_reader.proofs.Found.{ok_map, err_map}
+use Rattle.report_reader.proofs.Found.{err_map}
 use Rattle.report_reader.proofs.Stops.{halt_map}
 use Rattle.report_reader.proofs.AnswerLines.{stop_in_outside, outside_is, stop_later, outside_apart, later_is}
 use Rattle.report_reader.proofs.answer.read_unnamed.Goals as goal
 
 pub returns-in-None-clause-ok : goal.returns-in-None-clause-ok
-returns-in-None-clause-ok c = ok_map c.read_undecided.result _ _ (λ p h. (later_is 2 p.0 h.0, h.1)) c.read_undecided.ensures.ok
+returns-in-None-clause-ok c = IfOk-weaker c.read_undecided.result _ _ (λ p h. (later_is 2 p.0 h.0, h.1)) c.read_undecided.ensures.ok
 
 pub returns-in-None-clause-halt : goal.returns-in-None-clause-halt
 returns-in-None-clause-halt c = err_map c.read_undecided.result (IsFromKind 3) answer_text c.args.bytes.now (IsFromKind 2) answer_text c.args.bytes.now

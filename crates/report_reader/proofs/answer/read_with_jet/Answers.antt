@@ -1,14 +1,15 @@
 use Rattle.std.proofs.Common.{refl}
+use Rattle.std.proofs.lemmas.Result.{IfOk-weaker}
 use Rattle.cert_text.specs.Text.{answer_text}
 use Rattle.report_reader.specs.Evidence.{IsOfFamily, named_rest}
 use Rattle.report_reader.specs.Answers.{IsFromKind}
-use Rattle.report_reader.proofs.Found.{ok_map, err_map}
+use Rattle.report_reader.proofs.Found.{err_map}
 use Rattle.report_reader.proofs.Stops.{halt_map}
 use Rattle.report_reader.proofs.AnswerLines.{stop_in_named, named_is, stop_later, named_apart, later_is}
 use Rattle.report_reader.proofs.answer.read_with_jet.Goals as goal
 
 pub returns-in-None-clause-ok : goal.returns-in-None-clause-ok
-returns-in-None-clause-ok c = ok_map c.read_unnamed.result _ _ (λ p h. (later_is 1 p.0 h.0, h.1)) c.read_unnamed.ensures.ok
+returns-in-None-clause-ok c = IfOk-weaker c.read_unnamed.result _ _ (λ p h. (later_is 1 p.0 h.0, h.1)) c.read_unnamed.ensures.ok
 
 pub returns-in-None-clause-halt : goal.returns-in-None-clause-halt
 returns-in-None-clause-halt c = err_map c.read_unnamed.result (IsFromKind 2) answer_text c.args.bytes.now (IsFromKind 1) answer_text c.args.bytes.now

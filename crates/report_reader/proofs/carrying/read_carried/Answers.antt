@@ -1,9 +1,10 @@
 use Rattle.std.proofs.Common.{refl}
+use Rattle.std.proofs.lemmas.Result.{IfOk-weaker}
 use Rattle.cert_text.specs.Text.{carried_text}
 use Rattle.cert_text.specs.WellFormed.{IsWellFormedCarried}
 use Rattle.report_reader.specs.declared.frame.Frame.{Frame}
 use Rattle.report_reader.specs.States.{IsFramed, change_rest}
-use Rattle.report_reader.proofs.Found.{ok_map, err_map}
+use Rattle.report_reader.proofs.Found.{err_map}
 use Rattle.report_reader.proofs.CarriedLines.{FrameRead, stop_at_order, stop_at_algebra, stop_at_corank, stop_at_change, stop_behind_change, carried_read}
 use Rattle.report_reader.proofs.carrying.read_carried.Goals as goal
 
@@ -37,7 +38,7 @@ returns-clause-ok c =
     let d = c.in-Some-take_number.ensures.some in
     let f : Frame = record { order = c.in-Some.taken.0; algebra = c.in-Some-take_algebra.taken.0; corank = c.in-Some-take_number.taken.0 } in
     let read : FrameRead f c.args.bytes.now c.in-Some-take_number.taken.1.now = record { one = c.in-Some.taken.1.now; two = c.in-Some-take_algebra.taken.1.now; order = a.0; algebra = b.0; corank = d.0; order_line = a.1; algebra_line = b.1; corank_line = d.1 } in
-    ok_map c.read_change.result _ _ (λ p h. carried_read c.args.word f p.0 c.args.bytes.now c.in-Some-take_number.taken.1.now c.in-Some-take_line.rest.now p.1.now read c.in-Some-take_line.ensures.some h.0 h.1) c.read_change.ensures.ok
+    IfOk-weaker c.read_change.result _ _ (λ p h. carried_read c.args.word f p.0 c.args.bytes.now c.in-Some-take_number.taken.1.now c.in-Some-take_line.rest.now p.1.now read c.in-Some-take_line.ensures.some h.0 h.1) c.read_change.ensures.ok
 
 pub returns-clause-halt : goal.returns-clause-halt
 returns-clause-halt c =

@@ -1,9 +1,11 @@
+use Rattle.std.proofs.Common.{◌*◌}
 use Rattle.cert_text.specs.Text.{rows_text}
-use Rattle.report_reader.specs.States.{IsFramed, AreParts, AreRowsOf, change_text, change_rest}
+use Rattle.report_reader.specs.States.{IsFramed, AreParts, change_text, change_rest}
 use Rattle.report_reader.proofs.Found.{some_is}
 use Rattle.report_reader.proofs.Stops.{halt_map}
 use Rattle.report_reader.proofs.CarriedLines.{made, stop_in_parts, stop_in_matrix, stop_at_jet, change_done}
 use Rattle.report_reader.proofs.change.read_change.Goals as goal
+use Rattle.row_reader.specs.Values.{AreElements}
 
 pub returns-in-Err-clause-halt : goal.returns-in-Err-clause-halt
 returns-in-Err-clause-halt c = halt_map (AreParts c.args.frame) change_text c.args.bytes.now (IsFramed c.args.frame) (change_rest c.args.word) c.args.bytes.now
@@ -12,7 +14,7 @@ returns-in-Err-clause-halt c = halt_map (AreParts c.args.frame) change_text c.ar
 pub returns-in-Err-read_matrix-clause-halt : goal.returns-in-Err-read_matrix-clause-halt
 returns-in-Err-read_matrix-clause-halt c =
     let p = c.in-Ok.ensures.ok in
-    halt_map (AreRowsOf c.args.frame c.len-n.result c.len-n.result) (rows_text c.len-n.result c.len-n.result) c.in-Ok.read.1.now (IsFramed c.args.frame) (change_rest c.args.word) c.args.bytes.now
+    halt_map (AreElements c.args.frame.algebra (c.len-n.result * c.len-n.result)) (rows_text c.len-n.result c.len-n.result) c.in-Ok.read.1.now (IsFramed c.args.frame) (change_rest c.args.word) c.args.bytes.now
     (λ left s. stop_in_matrix c.args.frame c.in-Ok.read.0 c.len-n.result c.args.word c.args.bytes.now c.in-Ok.read.1.now left c.requires.frame c.len-n.ensures p.0 p.1 s) c.in-Err-read_matrix.halt c.in-Err-read_matrix.ensures.halt
 
 pub returns-in-Ok-None-clause-halt : goal.returns-in-Ok-None-clause-halt

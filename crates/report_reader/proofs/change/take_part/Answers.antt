@@ -1,6 +1,6 @@
 use Rattle.std.proofs.Common.{refl}
-use Rattle.cert_text.specs.Text.{part_text}
-use Rattle.row_reader.specs.Rows.{IsNamedPart, part_inside}
+use Rattle.cert_text.specs.Text.{part_text, part_inside}
+use Rattle.row_reader.specs.Rows.{IsNamedPart}
 use Rattle.report_reader.proofs.Fronts.{no_line_at, line_value_at, line_front}
 use Rattle.report_reader.proofs.Found.{some_is}
 use Rattle.report_reader.proofs.PartLines.{part_clean}

@@ -2,8 +2,9 @@ use Rattle.std.proofs.Common.{◌≡◌, ℕ, suc, ◌+◌, ◌-◌, ◌++◌, �
 use Rattle.std.specs.List.{flat_map}
 use Rattle.cert_text.specs.Text.{functional_text}
 use Rattle.report_reader.specs.Functional.{Term, number_of}
-use Rattle.report_reader.proofs.FunctionalLines.{AreDone, done_all, done_push, pushed_text, value_residual, values_stop, number_fits}
+use Rattle.report_reader.proofs.FunctionalLines.{AreDone, done_all, done_push, value_residual, values_stop, number_fits}
 use Rattle.report_reader.proofs.functional.read_values.Goals as goal
+use Rattle.report_reader.proofs.RowLines.{pushed_text}
 
 pub loop-i-init : goal.loop-i-init
 loop-i-init c =
@@ -41,7 +42,7 @@ loop-i-preserved c =
     record {
       long = (let a = ap length longer in let b = length-append c.loop-i.values (c.in-Some.value ∷ []) in omega (arith, a, b, long_so_far));
       done = subst (λ (vs : List Term). AreDone c.args.a c.args.corank 0 c.args.count vs (c.number-low.result + 1)) (sym longer) (subst (λ (k : ℕ). AreDone c.args.a c.args.corank 0 c.args.count (c.loop-i.values ++ c.in-Some.value ∷ []) k) low more);
-      text = ap (λ (vs : List Term). flat_map functional_text vs ++ c.in-Some.after.now) longer ∙ pushed_text c.loop-i.values c.in-Some.value c.loop-i.rest.now c.in-Some.after.now c.args.bytes.now i.text read.1;
+      text = ap (λ (vs : List Term). flat_map functional_text vs ++ c.in-Some.after.now) longer ∙ pushed_text functional_text c.loop-i.values c.in-Some.value c.loop-i.rest.now c.in-Some.after.now c.args.bytes.now i.text read.1;
     }
 
 pub returns-clause-ok : goal.returns-clause-ok

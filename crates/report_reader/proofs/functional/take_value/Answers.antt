@@ -1,6 +1,5 @@
 use Rattle.std.proofs.Common.{refl}
-use Rattle.cert_text.specs.Text.{functional_text}
-use Rattle.row_reader.specs.Values.{functional_inside}
+use Rattle.cert_text.specs.Text.{functional_text, functional_inside}
 use Rattle.report_reader.specs.Functional.{IsLater}
 use Rattle.report_reader.proofs.Fronts.{no_line_at, line_value_at, line_front}
 use Rattle.report_reader.proofs.FunctionalLines.{no_value, no_room, value_clean, value_residual}

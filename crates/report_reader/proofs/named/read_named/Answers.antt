@@ -1,4 +1,5 @@
 use Rattle.std.proofs.Common.{refl}
+use Rattle.std.proofs.lemmas.Result.{IfOk-weaker}
 use Rattle.cert_text.specs.declared.word.Word.TheVariants as words
 use Rattle.cert_text.specs.Text.{carried_text, unit_text}
 use Rattle.cert_text.specs.WellFormed.{IsWellFormedCarried}
@@ -6,7 +7,7 @@ use Rattle.row_reader.specs.Values.{IsUnitPair}
 use Rattle.report_reader.specs.declared.named.Front.{Front}
 use Rattle.report_reader.specs.Rows.{AreAtMost, counted_text}
 use Rattle.report_reader.specs.Evidence.{IsOfFamily, IsNamedAs, named_rest, mather_rest}
-use Rattle.report_reader.proofs.Found.{ok_map, err_map}
+use Rattle.report_reader.proofs.Found.{err_map}
 use Rattle.report_reader.proofs.Stops.{halt_map}
 use Rattle.report_reader.proofs.NamedLines.{ModulusRead, stop_in_carried, stop_in_units, stop_at_modulus, stop_at_milnor, stop_in_evidence, named_read}
 use Rattle.report_reader.proofs.named.read_named.Goals as goal
@@ -43,7 +44,7 @@ returns-clause-ok c =
     let read : ModulusRead c.args.family c.in-Ok.read.0 c.in-Ok-read_units.read.0 c.in-Some.taken.0 c.args.bytes.now c.in-Some.taken.1.now = record { one = c.in-Ok.read.1.now; two = c.in-Ok-read_units.read.1.now; of_list = c.requires.family; carried = a.0; carried_lines = a.1; units = u.0; units_lines = u.1; modulus = m.0; modulus_line = m.1 } in
     let k = c.in-Some-take_number.ensures.some in
     let f : Front = record { family = c.args.family; carried = c.in-Ok.read.0; units = c.in-Ok-read_units.read.0; modulus = c.in-Some.taken.0; milnor = c.in-Some-take_number.taken.0 } in
-    ok_map c.read_evidence.result _ _ (λ p h. named_read f p.0 c.args.bytes.now c.in-Some.taken.1.now c.in-Some-take_number.taken.1.now p.1.now read k.1 h.0 h.1) c.read_evidence.ensures.ok
+    IfOk-weaker c.read_evidence.result _ _ (λ p h. named_read f p.0 c.args.bytes.now c.in-Some.taken.1.now c.in-Some-take_number.taken.1.now p.1.now read k.1 h.0 h.1) c.read_evidence.ensures.ok
 
 pub returns-clause-halt : goal.returns-clause-halt
 returns-clause-halt c =

@@ -1,10 +1,11 @@
 use Rattle.std.proofs.Common.{ℕ, refl, sym, subst}
-use Rattle.row_reader.specs.Values.{AreResidual, basis_inside}
+use Rattle.row_reader.specs.Values.{AreResidual}
 use Rattle.report_reader.specs.Lines.{IsWithin}
 use Rattle.report_reader.proofs.Fronts.{no_line_at, line_value_at, line_front}
 use Rattle.report_reader.proofs.Found.{some_is, not_both}
 use Rattle.report_reader.proofs.NamedLines.{basis_clean, basis_size}
 use Rattle.report_reader.proofs.named.take_basis.Goals as goal
+use Rattle.cert_text.specs.Text.{basis_inside}
 
 pub returns-in-None-clause-none : goal.returns-in-None-clause-none
 returns-in-None-clause-none c _ v more h e = no_line_at (AreResidual c.args.corank) basis_inside c.args.bytes.now (c.in-None.ensures.none refl) v more h.residual e

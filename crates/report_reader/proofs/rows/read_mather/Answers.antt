@@ -2,12 +2,13 @@ use Rattle.std.proofs.Common.{ℕ, refl, subst}
 use Rattle.std.specs.List.{flat_map}
 use Rattle.cert_text.specs.declared.word.Word.TheVariants as words
 use Rattle.std.specs.Prelude.{decimal}
+use Rattle.std.proofs.lemmas.Result.{IfOk-weaker}
 use Rattle.report_reader.specs.Lines.{IsWithin}
 use Rattle.report_reader.specs.Blocks.{IsNotAtFront}
 use Rattle.cert_text.specs.Text.{word_line, mather_text}
-use Rattle.row_reader.specs.Rows.{IsRowOf}
+use Rattle.cert_text.specs.WellFormed.{IsRowOf}
 use Rattle.report_reader.specs.Rows.{AreMany, AreAtMost, counted_text, most_rows}
-use Rattle.report_reader.proofs.Found.{ok_map, err_map}
+use Rattle.report_reader.proofs.Found.{err_map}
 use Rattle.report_reader.proofs.RowLines.{counted_stop, behind_count, counted_read}
 use Rattle.report_reader.proofs.EvidenceLines.{some_rows, most_small}
 use Rattle.report_reader.proofs.rows.read_mather.Goals as goal
@@ -18,7 +19,7 @@ returns-in-None-clause-halt c = counted_stop words.Mather (most_rows c.args.fram
 pub returns-in-Some-clause-ok : goal.returns-in-Some-clause-ok
 returns-in-Some-clause-ok c =
     let n = c.in-Some.ensures.some in
-    ok_map c.read_mather_rows.result _ _ (λ p h. counted_read words.Mather (most_rows c.args.frame.corank) (IsRowOf c.args.frame.algebra c.args.frame.corank c.args.frame.order) mather_text c.in-Some.count p.0 c.args.bytes.now c.in-Some.rest.now p.1.now (subst (λ (k : ℕ). IsWithin 0 k c.in-Some.count) c.mather_limit.ensures n.0) n.1 h.0 h.1) c.read_mather_rows.ensures.ok
+    IfOk-weaker c.read_mather_rows.result _ _ (λ p h. counted_read words.Mather (most_rows c.args.frame.corank) (IsRowOf c.args.frame.algebra c.args.frame.corank c.args.frame.order) mather_text c.in-Some.count p.0 c.args.bytes.now c.in-Some.rest.now p.1.now (subst (λ (k : ℕ). IsWithin 0 k c.in-Some.count) c.mather_limit.ensures n.0) n.1 h.0 h.1) c.read_mather_rows.ensures.ok
 
 pub returns-in-Some-clause-halt : goal.returns-in-Some-clause-halt
 returns-in-Some-clause-halt c =

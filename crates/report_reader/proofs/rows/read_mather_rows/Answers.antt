@@ -1,6 +1,6 @@
 use Rattle.std.proofs.Common.{arith}
 use Rattle.cert_text.specs.Text.{mather_text}
-use Rattle.row_reader.specs.Rows.{IsRowOf}
+use Rattle.cert_text.specs.WellFormed.{IsRowOf}
 use Rattle.report_reader.proofs.Found.{some_is}
 use Rattle.report_reader.proofs.RowLines.{rows_stop, many_more, many_none}
 use Rattle.report_reader.proofs.EvidenceLines.{mather_told, mather_is_line, some_row, residual_there}

@@ -1,7 +1,7 @@
 use Rattle.std.proofs.Common.{◌≡◌, ◌++◌}
 use Rattle.std.specs.List.{flat_map}
 use Rattle.cert_text.specs.Text.{mather_text}
-use Rattle.row_reader.specs.Rows.{IsRowOf}
+use Rattle.cert_text.specs.WellFormed.{IsRowOf}
 use Rattle.report_reader.specs.Rows.{AreMany}
 use Rattle.report_reader.proofs.rows.read_mather_rows.Given as goal
 

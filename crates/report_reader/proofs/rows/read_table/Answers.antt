@@ -1,10 +1,11 @@
 use Rattle.std.proofs.Common.{refl, lit<}
 use Rattle.std.specs.List.{flat_map}
+use Rattle.std.proofs.lemmas.Result.{IfOk-weaker}
 use Rattle.cert_text.specs.declared.word.Word.TheVariants as words
 use Rattle.cert_text.specs.Text.{table_text}
-use Rattle.row_reader.specs.Rows.{IsTableRowOf}
+use Rattle.cert_text.specs.WellFormed.{IsTableRowOf}
 use Rattle.report_reader.specs.Rows.{AreMany, AreAtMost, counted_text}
-use Rattle.report_reader.proofs.Found.{ok_map, err_map}
+use Rattle.report_reader.proofs.Found.{err_map}
 use Rattle.report_reader.proofs.RowLines.{many_copies, counted_stop, behind_count, counted_read}
 use Rattle.report_reader.proofs.EvidenceLines.{some_table_row}
 use Rattle.report_reader.proofs.rows.read_table.Goals as goal
@@ -15,7 +16,7 @@ returns-in-None-clause-halt c = counted_stop words.Table 1140 (IsTableRowOf c.ar
 pub returns-in-Some-clause-ok : goal.returns-in-Some-clause-ok
 returns-in-Some-clause-ok c =
     let n = c.in-Some.ensures.some in
-    ok_map c.read_table_rows.result _ _ (λ p h. counted_read words.Table 1140 (IsTableRowOf c.args.frame.algebra c.args.frame.corank c.args.frame.order c.args.size) table_text c.in-Some.count p.0 c.args.bytes.now c.in-Some.rest.now p.1.now n.0 n.1 h.0 h.1) c.read_table_rows.ensures.ok
+    IfOk-weaker c.read_table_rows.result _ _ (λ p h. counted_read words.Table 1140 (IsTableRowOf c.args.frame.algebra c.args.frame.corank c.args.frame.order c.args.size) table_text c.in-Some.count p.0 c.args.bytes.now c.in-Some.rest.now p.1.now n.0 n.1 h.0 h.1) c.read_table_rows.ensures.ok
 
 pub returns-in-Some-clause-halt : goal.returns-in-Some-clause-halt
 returns-in-Some-clause-halt c =

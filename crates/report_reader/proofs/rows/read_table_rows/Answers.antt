@@ -1,6 +1,6 @@
 use Rattle.std.proofs.Common.{arith}
 use Rattle.cert_text.specs.Text.{table_text}
-use Rattle.row_reader.specs.Rows.{IsTableRowOf}
+use Rattle.cert_text.specs.WellFormed.{IsTableRowOf}
 use Rattle.report_reader.proofs.Found.{some_is}
 use Rattle.report_reader.proofs.RowLines.{rows_stop, many_more, many_none}
 use Rattle.report_reader.proofs.EvidenceLines.{table_told, table_is_line, some_table_row}

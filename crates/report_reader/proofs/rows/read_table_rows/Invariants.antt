@@ -1,7 +1,7 @@
 use Rattle.std.proofs.Common.{◌≡◌, ◌++◌}
 use Rattle.std.specs.List.{flat_map}
 use Rattle.cert_text.specs.Text.{table_text}
-use Rattle.row_reader.specs.Rows.{IsTableRowOf}
+use Rattle.cert_text.specs.WellFormed.{IsTableRowOf}
 use Rattle.report_reader.specs.Rows.{AreMany}
 use Rattle.report_reader.proofs.rows.read_table_rows.Given as goal
 

@@ -1,6 +1,6 @@
 use Rattle.std.proofs.Common.{refl}
-use Rattle.cert_text.specs.Text.{mather_text}
-use Rattle.row_reader.specs.Rows.{IsRowOf, mather_inside}
+use Rattle.cert_text.specs.Text.{mather_text, mather_inside}
+use Rattle.cert_text.specs.WellFormed.{IsRowOf}
 use Rattle.report_reader.proofs.Fronts.{no_line_at, line_value_at, line_front}
 use Rattle.report_reader.proofs.Found.{some_is}
 use Rattle.report_reader.proofs.EvidenceLines.{mather_clean}

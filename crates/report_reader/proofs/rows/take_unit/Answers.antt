@@ -1,6 +1,6 @@
 use Rattle.std.proofs.Common.{refl}
-use Rattle.cert_text.specs.Text.{unit_text}
-use Rattle.row_reader.specs.Values.{IsUnitPair, unit_inside}
+use Rattle.cert_text.specs.Text.{unit_text, unit_inside}
+use Rattle.row_reader.specs.Values.{IsUnitPair}
 use Rattle.report_reader.proofs.Fronts.{no_line_at, line_value_at, line_front}
 use Rattle.report_reader.proofs.EvidenceLines.{unit_clean}
 use Rattle.report_reader.proofs.rows.take_unit.Goals as goal

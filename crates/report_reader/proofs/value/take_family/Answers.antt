@@ -1,9 +1,9 @@
 use Rattle.std.proofs.Common.{refl}
 use Rattle.cert_text.specs.declared.word.Word.TheVariants as words
 use Rattle.cert_text.specs.Names.{family_text}
-use Rattle.report_reader.specs.Lines.{IsFamily}
+use Rattle.cert_text.specs.WellFormed.{IsFamily}
 use Rattle.report_reader.proofs.Fronts.{value_at, line_absent}
-use Rattle.report_reader.proofs.Words.{family_clean}
+use Rattle.report_reader.proofs.CleanTexts.{family_clean}
 use Rattle.report_reader.proofs.value.take_family.Goals as goal
 
 pub returns-in-None-clause-none : goal.returns-in-None-clause-none

@@ -4,7 +4,7 @@ use Rattle.cert_text.specs.declared.word.Word.TheVariants as words
 use Rattle.cert_text.specs.Text.{modulus_text}
 use Rattle.cert_text.specs.WellFormed.{is_valid_modulus}
 use Rattle.report_reader.proofs.Fronts.{value_at, line_absent}
-use Rattle.report_reader.proofs.Words.{modulus_clean}
+use Rattle.report_reader.proofs.CleanTexts.{modulus_clean}
 use Rattle.report_reader.proofs.value.take_modulus_line.Goals as goal
 
 pub returns-in-None-clause-none : goal.returns-in-None-clause-none

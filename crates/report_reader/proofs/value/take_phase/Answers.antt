@@ -3,7 +3,7 @@ use Rattle.cert_text.specs.declared.word.Word.TheVariants as words
 use Rattle.cert_text.specs.Names.{phase_text}
 use Rattle.text_reader.specs.Reading.{IsAny}
 use Rattle.report_reader.proofs.Fronts.{value_at, line_absent}
-use Rattle.report_reader.proofs.Words.{phase_clean}
+use Rattle.report_reader.proofs.CleanTexts.{phase_clean}
 use Rattle.report_reader.proofs.value.take_phase.Goals as goal
 
 pub returns-in-None-clause-none : goal.returns-in-None-clause-none

@@ -2,7 +2,7 @@ use Rattle.std.proofs.Common.{refl}
 use Rattle.cert_text.specs.declared.word.Word.TheVariants as words
 use Rattle.report_reader.specs.Lines.{IsPlace, place_text}
 use Rattle.report_reader.proofs.Fronts.{value_at, line_absent}
-use Rattle.report_reader.proofs.Words.{place_clean}
+use Rattle.report_reader.proofs.CleanTexts.{place_clean}
 use Rattle.report_reader.proofs.value.take_place.Goals as goal
 
 pub returns-in-None-clause-none : goal.returns-in-None-clause-none

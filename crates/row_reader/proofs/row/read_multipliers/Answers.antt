@@ -3,7 +3,7 @@ use Rattle.ring_law.specs.declared.fraction.Frac.{Frac}
 use Rattle.ext_algebra.specs.declared.algebra.Ext.{Ext}
 use Rattle.jet_poly.specs.JetTerms.{JetTerms}
 use Rattle.cert_text.specs.Text.{multipliers_text}
-use Rattle.row_reader.specs.Rows.{AreJetsOf}
+use Rattle.cert_text.specs.WellFormed.{AreJetsOf}
 use Rattle.row_reader.specs.Words.{after_space}
 use Rattle.row_reader.proofs.WordTexts.{nothing_left}
 use Rattle.row_reader.proofs.RowTexts.{AreMultipliersTo, multipliers_start, multipliers_more, multiplier_missing, multiplier_refused, multipliers_over, multipliers_found}

@@ -1,7 +1,7 @@
 use Rattle.std.proofs.Common.{[], refl, sym, ◌∙◌, append-nil}
-use Rattle.row_reader.specs.Values.{values_text}
 use Rattle.row_reader.proofs.WordTexts.{something_left}
 use Rattle.row_reader.proofs.value.read_elements.Goals as goal
+use Rattle.cert_text.specs.Text.{values_text}
 
 pub returns-in-Ok-None-clause-none : goal.returns-in-Ok-None-clause-none
 returns-in-Ok-None-clause-none c _ es valid text =

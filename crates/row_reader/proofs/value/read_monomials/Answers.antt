@@ -1,10 +1,11 @@
 use Rattle.std.proofs.Common.{◌≡◌, ◌++◌, ◌∷◌, [], List, refl, sym, ap, subst, ◌∙◌}
 use Rattle.mono_exp.specs.declared.exponent.Exp.{Exp}
-use Rattle.row_reader.specs.Values.{AreResidual, monomials_text}
+use Rattle.row_reader.specs.Values.{AreResidual}
 use Rattle.row_reader.specs.Words.{after_space}
 use Rattle.row_reader.proofs.WordTexts.{nothing_left}
 use Rattle.row_reader.proofs.ValueTexts.{AreMonomials, monomials_start, monomials_more, monomials_stuck, monomials_found, shorter}
 use Rattle.row_reader.proofs.value.read_monomials.Goals as goal
+use Rattle.cert_text.specs.Text.{monomials_text}
 
 pub loop-left-init : goal.loop-left-init
 loop-left-init c = subst (λ (ms : List Exp). AreMonomials c.args.corank (after_space c.args.rest) ms (after_space c.args.rest)) (sym c.new-monomials.ensures.items) (monomials_start c.args.corank (after_space c.args.rest))
