@@ -1,8 +1,7 @@
 -- Polynomials by their texts.
-use Rattle.std.proofs.Common.{◌≡◌, ℕ, suc, ◌+◌, ◌-◌, ◌<◌, ◌≤◌, Bool, true, false, cond, ◌&&◌, eqb, ltb, leb, ◌⊎◌, inl, inr, pos, Option, Some, None, List, [], ◌∷◌, ◌++◌, length, get_or, refl, sym, ap, ◌∙◌, subst, append_assoc, append-nil, length-append, arith, IsTrue}
+use Rattle.std.proofs.Common.{◌≡◌, ℕ, suc, ◌-◌, ◌<◌, Bool, true, false, cond, ◌&&◌, eqb, leb, ◌⊎◌, inl, inr, Option, Some, None, List, [], ◌∷◌, ◌++◌, length, get_or, refl, sym, ap, ◌∙◌, subst, append_assoc, append-nil, length-append, arith}
 use Rattle.std.specs.Prelude.{not, sum, Result, Ok, Err, IfOk, IfSome}
-use Rattle.std.specs.Borrow.{Bor}
-use Rattle.std.specs.List.{AllByRecursion, flat_map, list_all}
+use Rattle.std.specs.List.{AllByRecursion, list_all}
 use Rattle.std.proofs.lemmas.Bool.{leb-true}
 use Rattle.std.specs.Cmp.Derive.{both_true}
 use Rattle.std.proofs.lemmas.List.Concat.{flat_map-append}
@@ -20,22 +19,21 @@ use Rattle.poly_text.specs.Numbers.{components_text, element_text, is_zero_fract
 use Rattle.poly_text.specs.Polynomials.{is_one, jet_text, new_names, polynomial_in, term_in}
 use Rattle.normal_forms.proofs.Insertion.{before-trans}
 use Rattle.cert_text.specs.WellFormed.{is_monomial_in, is_term_of, is_zero_element, IsJetOf}
-use Rattle.cert_law.specs.Fields.{IsHigher, IsMonomial, zero_fraction}
+use Rattle.cert_law.specs.Fields.{IsHigher, IsMonomial}
 use Rattle.cert_law.specs.Unique.{Starts}
-use Rattle.cert_law.proofs.Elements as elements
 use Rattle.cert_law.proofs.Jets.{decode, higher_lump, higher_text, lump_of, outer, zeros_same}
-use Rattle.cert_law.proofs.Lumps.{Lump, Simple, IsLump, lump_one, lump_text}
+use Rattle.cert_law.proofs.Lumps.{Lump, Simple, IsLump, lump_one}
 use Rattle.cert_law.proofs.Monomials.{exponents_is, starred}
 use Rattle.cert_law.proofs.Sums.{sign_of}
 use Rattle.cert_law.proofs.Valid.{both, component_by, higher_by, monomial_by}
 use Rattle.text_reader.specs.declared.piece.Power.{Power}
 use Rattle.text_reader.specs.declared.piece.Power.TheVariants as powers
-use Rattle.text_reader.specs.Pieces.{AreFractions, Follows, FollowsAll, IsCoefficient, IsSign, body_of, joined, piece_of}
-use Rattle.text_reader.specs.Reading.{IsNoText, IsTextOf}
+use Rattle.text_reader.specs.Pieces.{AreFractions, Follows, FollowsAll, IsSign, body_of}
+use Rattle.text_reader.specs.Reading.{IsTextOf}
 use Rattle.text_reader.specs.Terms.{AreTermsOf, IsHigherTerm, IsLongTerm, IsSimpleTerm, constant_terms, is_after_last, one_monomial, term_text, terms_text}
-use Rattle.text_reader.proofs.ComponentTexts.{body_is, ends_piece, follows_nothing, starts_signed, zero_is, zero_valid}
+use Rattle.text_reader.proofs.ComponentTexts.{body_is, ends_piece, follows_nothing, starts_signed, zero_valid}
 use Rattle.text_reader.proofs.ElementTexts.{components_front, element_fractions, element_is, HasFront, first, nothing, some_product, sum_back, without_signed, zero_element}
-use Rattle.text_reader.proofs.TermTexts.{factors_there, higher_of, long_is, simple_is, simple_product, term_cases, term_one, zero_by}
+use Rattle.text_reader.proofs.TermTexts.{factors_there, higher_of, long_is, simple_product, term_cases, term_one, zero_by}
 
 abbrev Term : Type 0
 Term = Exp × Ext Frac

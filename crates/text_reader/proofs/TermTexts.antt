@@ -1,23 +1,23 @@
 -- Terms that are not constant, by their texts.
-use Rattle.std.proofs.Common.{◌≡◌, ◌≢◌, ℕ, ◌+◌, ◌-◌, ◌<◌, ◌≤◌, Bool, true, false, cond, ◌&&◌, eqb, ◌⊎◌, inl, inr, pos, Option, Some, None, List, [], ◌∷◌, ◌++◌, length, take, drop, length-drop, refl, sym, ap, ◌∙◌, subst, append_assoc, append-nil, arith, IsTrue}
+use Rattle.std.proofs.Common.{◌≡◌, ◌≢◌, ℕ, ◌+◌, ◌-◌, ◌<◌, Bool, true, false, cond, ◌&&◌, eqb, ◌⊎◌, inl, inr, pos, Option, Some, None, List, [], ◌∷◌, ◌++◌, length, take, drop, length-drop, refl, sym, ap, ◌∙◌, subst, append_assoc, append-nil, arith, IsTrue}
 use Rattle.std.specs.Prelude.{codes, IfSome, position}
 use Rattle.std.specs.Borrow.{Bor}
-use Rattle.std.specs.List.{AllByRecursion, flat_map, list_all}
+use Rattle.std.specs.List.{AllByRecursion, flat_map}
 use Rattle.std.proofs.lemmas.Bool.Decides.{Decides-int_eq}
 use Rattle.std.proofs.lemmas.List.{append_cancel_right, take_all, take-append-drop}
 use Rattle.ring_law.specs.declared.fraction.Frac.{Frac}
 use Rattle.ext_algebra.specs.declared.algebra.Ext.{Ext}
 use Rattle.ext_algebra.specs.Fractions.{is_frac}
 use Rattle.mono_exp.specs.declared.exponent.Exp.{Exp}
-use Rattle.poly_text.specs.Numbers.{component_count_of, components_text, element_text, is_zero_fraction, one_unless_zero, product_text, signed_text, without_plus}
-use Rattle.poly_text.specs.Polynomials.{factors_text, is_one, new_names}
+use Rattle.poly_text.specs.Numbers.{components_text, element_text, is_zero_fraction, one_unless_zero, product_text, signed_text, without_plus}
+use Rattle.poly_text.specs.Polynomials.{is_one}
 use Rattle.cert_text.specs.WellFormed.{is_zero_element}
-use Rattle.cert_law.specs.Fields.{Element, IsInside, IsMonomial, IsTerm, IsHigher, zero_fraction}
+use Rattle.cert_law.specs.Fields.{Element, IsInside, IsMonomial, IsHigher, zero_fraction}
 use Rattle.cert_law.specs.Unique.{Starts}
 use Rattle.cert_law.proofs.Cut.{head, cut, same_front}
 use Rattle.cert_law.proofs.Elements.{pieces_of}
 use Rattle.cert_law.proofs.Elements as elements
-use Rattle.cert_law.proofs.Jets.{higher_lump, higher_text, lump_of, lump_tells, starred_front, factors_is, factors_inside, zeros_same}
+use Rattle.cert_law.proofs.Jets.{higher_lump, higher_text, lump_of, lump_tells, starred_front, factors_is, factors_inside}
 use Rattle.cert_law.proofs.Lumps.{lump_one, lump_text}
 use Rattle.cert_law.proofs.Monomials.{starred}
 use Rattle.cert_law.proofs.Numbers.{IsDigit, all_append}
@@ -27,8 +27,8 @@ use Rattle.cert_law.proofs.Valid.{all_to}
 use Rattle.text_reader.specs.declared.piece.Power.{Power}
 use Rattle.text_reader.specs.declared.piece.Power.TheVariants as powers
 use Rattle.text_reader.specs.Pieces.{AreFractions, IsCoefficient, IsLetters, IsSign, body_of, joined}
-use Rattle.text_reader.specs.Reading.{IsNoText, IsTextOf}
-use Rattle.text_reader.specs.Terms.{multiple, IsLong, simple_text, term_text, IsHigherTerm, IsSimpleTerm, IsLongTerm, IsVariable}
+use Rattle.text_reader.specs.Reading.{IsTextOf}
+use Rattle.text_reader.specs.Terms.{multiple, simple_text, term_text, IsHigherTerm, IsSimpleTerm, IsLongTerm, IsVariable}
 use Rattle.text_reader.proofs.ComponentTexts.{zero_valid, zero_is, ends_piece, Admits, lettered, ends_with, IsBefore, not_sign, unsigned, piece_shape}
 use Rattle.text_reader.proofs.ElementTexts.{element_is, element_same, small, part0, part1, part2, parts_are}
 use Rattle.text_reader.proofs.Places.{byte_some}

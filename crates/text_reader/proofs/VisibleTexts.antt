@@ -1,7 +1,7 @@
 -- The bytes of the small texts are visible: none is a blank or a newline.
-use Rattle.std.proofs.Common.{◌≡◌, ℕ, suc, ◌<◌, ◌≤◌, ◌^◌, Bool, true, false, cond, ◌&&◌, ◌⊎◌, inl, inr, ℤ, pos, negsuc, List, [], ◌∷◌, ◌++◌, refl, sym, ap, ◌∙◌, subst, append-nil, arith, IsTrue}
+use Rattle.std.proofs.Common.{◌≡◌, ℕ, suc, ◌<◌, Bool, true, false, ◌&&◌, ◌⊎◌, inl, inr, ℤ, pos, negsuc, List, [], ◌∷◌, ◌++◌, refl, sym, ap, ◌∙◌, subst, append-nil, arith, IsTrue}
 use Rattle.std.specs.Prelude.{decimal, sum, nat_le}
-use Rattle.std.specs.List.{AllByRecursion, flat_map}
+use Rattle.std.specs.List.{AllByRecursion}
 use Rattle.std.specs.Fmt.{signed_decimal}
 use Rattle.ring_law.specs.declared.fraction.Frac.{Frac}
 use Rattle.ext_algebra.specs.declared.algebra.Algebra.{Algebra}
@@ -12,21 +12,21 @@ use Rattle.ext_algebra.specs.Fractions.{is_frac}
 use Rattle.mono_exp.specs.declared.exponent.Exp.{Exp}
 use Rattle.jet_poly.specs.JetTerms.{JetTerms}
 use Rattle.poly_text.specs.declared.name.Name.{Name}
-use Rattle.poly_text.specs.Numbers.{components_text, element_text, fraction_text, is_zero_fraction, over_text, signed_text}
+use Rattle.poly_text.specs.Numbers.{components_text, element_text, fraction_text, is_zero_fraction, over_text}
 use Rattle.poly_text.specs.Polynomials.{is_one, jet_text, monomial_in, monomial_text, name_text, polynomial_in, without_star}
 use Rattle.cert_text.specs.Text.{algebra_text}
 use Rattle.cert_text.specs.WellFormed.{is_monomial_in, is_valid_name, IsJetOf}
-use Rattle.cert_law.specs.Fields.{IsInside, IsMonomial, zero_fraction}
+use Rattle.cert_law.specs.Fields.{IsInside, IsMonomial}
 use Rattle.cert_law.proofs.Jets.{factors_inside, starred_front}
 use Rattle.cert_law.proofs.Monomials.{starred}
-use Rattle.cert_law.proofs.Numbers.{IsDigit, all_append}
+use Rattle.cert_law.proofs.Numbers.{all_append}
 use Rattle.cert_law.proofs.Parts.{IsNameByte, name_by, name_bytes}
 use Rattle.cert_law.proofs.Series.{no_factors}
 use Rattle.cert_law.proofs.Valid.{all_to, both}
 use Rattle.text_reader.specs.declared.piece.Power.TheVariants as powers
-use Rattle.text_reader.specs.Digits.{is_natural, IsNatural}
+use Rattle.text_reader.specs.Digits.{is_natural}
 use Rattle.text_reader.specs.Pieces.{AreFractions, IsSign}
-use Rattle.text_reader.specs.Terms.{IsHigherTerm, IsLongTerm, IsSimpleTerm, constant_terms, term_text, terms_text}
+use Rattle.text_reader.specs.Terms.{IsHigherTerm, IsLongTerm, IsSimpleTerm, term_text, terms_text}
 use Rattle.text_reader.proofs.ComponentTexts.{Admits, natural_all}
 use Rattle.text_reader.proofs.ElementTexts.{element_fractions, part0, part1, part2, parts_are}
 use Rattle.text_reader.proofs.Fractions.{minus_is, opposite_of}

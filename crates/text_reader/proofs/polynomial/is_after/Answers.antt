@@ -1,4 +1,4 @@
-use Rattle.std.proofs.Common.{◌∙◌, ◌<◌, length, sym, arith}
+use Rattle.std.proofs.Common.{◌∙◌, sym}
 use Rattle.text_reader.proofs.PolynomialTexts.{after_last, some_items}
 use Rattle.text_reader.proofs.polynomial.is_after.Goals as goal
 

@@ -1,8 +1,7 @@
-use Rattle.std.proofs.Common.{◌≡◌, ℕ, List, ◌∷◌, [], refl, sym, ap, subst, ◌∙◌, arith}
+use Rattle.std.proofs.Common.{List, sym, ap, ◌∙◌, arith}
 use Rattle.ring_law.specs.declared.fraction.Frac.{Frac}
 use Rattle.ext_algebra.specs.declared.algebra.Ext.{Ext}
 use Rattle.mono_exp.specs.declared.exponent.Exp.{Exp}
-use Rattle.poly_text.specs.Polynomials.{jet_text}
 use Rattle.jet_poly.specs.JetTerms.{JetTerms}
 use Rattle.text_reader.specs.Pieces.{joined}
 use Rattle.text_reader.proofs.PolynomialTexts.{zero_read, constant_refused, rest_refused, whole_read, read_as, refused_as}

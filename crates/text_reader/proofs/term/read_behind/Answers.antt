@@ -1,7 +1,5 @@
-use Rattle.std.proofs.Common.{refl, sym, ◌∙◌, ◌++◌, append_assoc}
-use Rattle.std.proofs.lemmas.List.{append_cancel_right}
-use Rattle.text_reader.proofs.ComponentTexts.{ends_with}
-use Rattle.text_reader.proofs.TermTexts.{letters_more, behind_end}
+use Rattle.std.proofs.Common.{refl}
+use Rattle.text_reader.proofs.TermTexts.{behind_end}
 use Rattle.text_reader.proofs.term.read_behind.Goals as goal
 
 pub returns-in-None-clause-none : goal.returns-in-None-clause-none

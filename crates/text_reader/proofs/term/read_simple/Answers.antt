@@ -1,4 +1,4 @@
-use Rattle.std.proofs.Common.{refl, sym, ◌∙◌}
+use Rattle.std.proofs.Common.{refl}
 use Rattle.text_reader.proofs.TermTexts.{variable_there, simple_split, simple_front, simple_read, variable_letters}
 use Rattle.text_reader.proofs.term.read_simple.Goals as goal
 

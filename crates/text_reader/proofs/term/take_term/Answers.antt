@@ -1,4 +1,4 @@
-use Rattle.std.proofs.Common.{refl, sym, ap, ◌∙◌, ◌∷◌, ◌≡◌, ℕ, List}
+use Rattle.std.proofs.Common.{refl, sym, ◌∙◌, ◌∷◌, ◌≡◌}
 use Rattle.text_reader.proofs.TermTexts.{some_simple, some_long, unopened, opened, long_sign}
 use Rattle.text_reader.proofs.term.take_term.Goals as goal
 
