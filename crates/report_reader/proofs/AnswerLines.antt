@@ -1,8 +1,7 @@
 -- Answers by their lines.
-use Rattle.std.proofs.Common.{◌≡◌, ℕ, zero, suc, ◌+◌, ◌*◌, ◌≤◌, ◌⊎◌, inl, inr, List, [], ◌++◌, length, get_or, refl, sym, ap, ◌∙◌, append_assoc, append-nil, arith}
+use Rattle.std.proofs.Common.{◌≡◌, ℕ, suc, ◌+◌, ◌*◌, ◌≤◌, ◌⊎◌, inl, inr, List, [], ◌++◌, length, get_or, refl, sym, ap, ◌∙◌, append_assoc, append-nil, arith}
 use Rattle.std.specs.Prelude.{decimal, IsTrue}
 use Rattle.std.proofs.lemmas.Bool.{cases_lt}
-use Rattle.ext_algebra.specs.Algebra.{is_algebra}
 use Rattle.normal_forms.specs.declared.family.Family.{Family}
 use Rattle.normal_forms.specs.declared.pattern.Pattern.{Pattern}
 use Rattle.poly_text.specs.Polynomials.{name_text}
@@ -16,11 +15,10 @@ use Rattle.cert_text.specs.declared.word.Word.TheVariants as words
 use Rattle.cert_text.specs.Words.{word_text}
 use Rattle.cert_text.specs.Names.{phase_text, family_text, pattern_text}
 use Rattle.cert_text.specs.Text.{line, word_line, algebra_text, answer_text, carried_text, named_text, front_text, evidence_text, mather_lines, outside_text, limit_text, unresolved_text}
-use Rattle.cert_text.specs.WellFormed.{is_valid_name, is_extension, IsWellFormedAnswer, IsWellFormedCarried, IsWellFormedLimit, IsWellFormedUnresolved, IsFamily, IsExtension}
+use Rattle.cert_text.specs.WellFormed.{is_valid_name, IsWellFormedAnswer, IsWellFormedCarried, IsWellFormedLimit, IsWellFormedUnresolved, IsFamily, IsExtension}
 use Rattle.cert_law.proofs.Letters.{pattern_one}
 use Rattle.cert_law.proofs.Carrying.{word_rest}
 use Rattle.cert_law.proofs.Reporting as reporting
-use Rattle.cert_law.proofs.Valid.{both}
 use Rattle.text_reader.specs.Reading.{IsAny}
 use Rattle.text_reader.proofs.Visible.{digits_lack}
 use Rattle.report_reader.specs.Lines.{IsWithin, IsPlace, place_text}

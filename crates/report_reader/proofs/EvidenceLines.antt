@@ -1,25 +1,20 @@
 -- The rows of units, of Mather's condition and of the table.
-use Rattle.std.proofs.Common.{◌≡◌, ℕ, zero, suc, ◌<◌, ◌≤◌, ◌^◌, Bool, true, false, eqb, leb, ◌&&◌, List, [], ◌∷◌, ◌++◌, refl, arith, lit<}
-use Rattle.std.specs.Prelude.{codes, sum}
+use Rattle.std.proofs.Common.{ℕ, zero, suc, ◌<◌, ◌≤◌, ◌^◌, eqb, List, [], ◌∷◌, ◌++◌, refl, arith, lit<}
+use Rattle.std.specs.Prelude.{codes}
 use Rattle.std.specs.List.{AllByRecursion, flat_map}
-use Rattle.std.proofs.lemmas.Bool.{leb-true}
 use Rattle.std.specs.Cmp.Derive.{both_true}
 use Rattle.ext_algebra.specs.declared.algebra.Algebra.{Algebra}
-use Rattle.ext_algebra.specs.Algebra.{is_element}
-use Rattle.mono_exp.specs.declared.exponent.Exp.{Exp}
 use Rattle.jet_poly.specs.JetTerms.{JetTerms}
 use Rattle.determinacy.specs.declared.row.MatherRow.{MatherRow}
 use Rattle.milnor_alg.specs.declared.quotient.TableRow.{TableRow}
 use Rattle.poly_text.specs.Numbers.{element_text}
 use Rattle.poly_text.specs.Polynomials.{monomial_text, jet_text}
 use Rattle.cert_text.specs.Text.{unit_text, multipliers_text, mather_text, table_text, unit_inside, values_text, mather_inside, table_inside}
-use Rattle.cert_text.specs.WellFormed.{is_monomial_in, IsJetOf, AreJetsOf, IsRowOf, IsTableRowOf}
+use Rattle.cert_text.specs.WellFormed.{IsJetOf, AreJetsOf, IsRowOf, IsTableRowOf}
 use Rattle.cert_law.specs.Unique.{IsSelfEnding}
-use Rattle.cert_law.specs.Fields.{Element, UnitPair, IsSmallElement, IsUnitLine, IsMonomial, IsReadableJet, AreJets, IsRow, IsTableLine}
+use Rattle.cert_law.specs.Fields.{Element, UnitPair, IsUnitLine, IsRow, IsTableLine}
 use Rattle.cert_law.proofs.Elements.{unit_line}
-use Rattle.cert_law.proofs.Valid.{both, all_from, all_to, element_by, monomial_by}
 use Rattle.cert_law.proofs.Series.{mather_line, table_line}
-use Rattle.cert_law.proofs.Carrying.{readable}
 use Rattle.cert_law.proofs.Reporting.{unit_by, row_by, table_row_by}
 use Rattle.row_reader.specs.Values.{IsUnitPair, IsResidual}
 use Rattle.row_reader.proofs.ValueTexts.{unit_valid}
@@ -75,7 +70,7 @@ multipliers_clean f w [] h = tt
 multipliers_clean f w (g ∷ fs) h = (
   (λ e. omega (arith, e)),
   clean-append (jet_text g) (flat_map (λ g. codes " ; " ++ jet_text g) fs) (multiplier_clean f w g h.0)
-  (clean-flat_map (IsJetOf f.corank f.order f.algebra) (λ g. codes " ; " ++ jet_text g) (λ g q. clean-append (codes " ; ") (jet_text g) (omega arith) (multiplier_clean f w g q)) fs h.1),
+      (clean-flat_map (IsJetOf f.corank f.order f.algebra) (λ g. codes " ; " ++ jet_text g) (λ g q. clean-append (codes " ; ") (jet_text g) (omega arith) (multiplier_clean f w g q)) fs h.1),
 )
 
 pub some_multipliers : (f : Frame) → (fs : List (JetTerms Element)) × AreJetsOf f.algebra f.corank f.order fs

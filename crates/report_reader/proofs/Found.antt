@@ -1,6 +1,6 @@
 -- An optional value that is there, and one that is not.
 use Rattle.std.proofs.Common.{◌≡◌, ℕ, Bool, true, false, List, Option, Some, subst}
-use Rattle.std.specs.Prelude.{Result, Ok, Err, IfSome, IfOk, IfErr}
+use Rattle.std.specs.Prelude.{Result, IfSome, IfErr}
 use Rattle.std.proofs.lemmas.Result.{IfErr-weaker}
 use Rattle.report_reader.specs.declared.halt.Halt.{Halt}
 use Rattle.report_reader.specs.Blocks.{IsStop, IsHalt}

@@ -1,5 +1,5 @@
 -- The functional of a limit report: numbers of monomials, values one after the other, and the head before them.
-use Rattle.std.proofs.Common.{◌≡◌, ℕ, zero, suc, ◌+◌, ◌-◌, ◌<◌, ◌≤◌, ◌^◌, Bool, true, false, ◌&&◌, eqb, leb, pos, List, [], ◌∷◌, ◌++◌, length, take, drop, get_or, refl, sym, ap, ◌∙◌, subst, append_assoc, append-nil, length-append, arith}
+use Rattle.std.proofs.Common.{◌≡◌, ℕ, zero, suc, ◌+◌, ◌-◌, ◌<◌, ◌≤◌, ◌^◌, Bool, true, false, ◌&&◌, eqb, leb, pos, List, [], ◌∷◌, ◌++◌, length, take, drop, get_or, refl, sym, ap, ◌∙◌, subst, append_assoc, length-append, arith}
 use Rattle.std.specs.Prelude.{decimal, not, sum}
 use Rattle.std.specs.List.{AllByRecursion, flat_map, list_all}
 use Rattle.std.proofs.lemmas.Bool.{eq-eqb, eqb-true, le-leb, leb-false, leb-true}
@@ -28,7 +28,6 @@ use Rattle.cert_text.specs.declared.word.Word.TheVariants as words
 use Rattle.cert_text.specs.Text.{functional_text, line, word_line, functional_inside}
 use Rattle.cert_text.specs.WellFormed.{is_monomial_in, is_zero_element, list_limit}
 use Rattle.cert_law.specs.Unique.{IsSelfEnding}
-use Rattle.cert_law.specs.Fields.{IsValue}
 use Rattle.cert_law.proofs.Reporting.{functional_head, low_monomial, value_by}
 use Rattle.cert_law.proofs.Series.{functional_line}
 use Rattle.cert_law.proofs.Valid.{all_to, both}

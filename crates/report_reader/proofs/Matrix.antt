@@ -1,5 +1,5 @@
 -- A matrix by its rows.
-use Rattle.std.proofs.Common.{◌≡◌, ℕ, zero, suc, ◌+◌, ◌*◌, ◌<◌, ◌≤◌, Bool, true, false, ◌&&◌, inl, pos, List, [], ◌∷◌, ◌++◌, length, take, drop, refl, sym, ap, ◌∙◌, subst, append_assoc, append-nil, length-append, length-drop, arith}
+use Rattle.std.proofs.Common.{◌≡◌, ℕ, zero, suc, ◌+◌, ◌*◌, ◌<◌, ◌≤◌, Bool, true, List, [], ◌∷◌, ◌++◌, length, take, drop, refl, sym, ap, ◌∙◌, subst, append_assoc, append-nil, length-append, length-drop, arith}
 use Rattle.std.specs.List.{AllByRecursion, flat_map, list_all}
 use Rattle.std.proofs.lemmas.List.{length-take-le, take-append-drop}
 use Rattle.std.specs.Cmp.Derive.{both_true}
@@ -25,7 +25,7 @@ use Rattle.report_reader.specs.Lines.{IsClean}
 use Rattle.report_reader.specs.Blocks.{IsStop, IsNotAtFront}
 use Rattle.report_reader.specs.Rows.{AreMany}
 use Rattle.report_reader.proofs.Fronts.{clean-append, line-line, line_text, clean-flat_map}
-use Rattle.report_reader.proofs.Stops.{IsLine, stop_before, whole-append, whole-line}
+use Rattle.report_reader.proofs.Stops.{IsLine, stop_before}
 use Rattle.report_reader.proofs.RowLines.{rows_stop, many_copies, rows_whole}
 use Rattle.report_reader.proofs.CleanTexts.{element_clean}
 use Rattle.text_reader.proofs.ElementTexts.{zero_element}

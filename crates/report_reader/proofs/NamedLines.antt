@@ -1,10 +1,9 @@
 -- The lines of named and unresolved germs, one block after the other.
-use Rattle.std.proofs.Common.{◌≡◌, ℕ, zero, suc, ◌<◌, ◌≤◌, ◌^◌, Bool, true, ◌&&◌, List, [], ◌∷◌, ◌++◌, length, refl, sym, ap, ◌∙◌, subst, append_assoc, append-nil, inl, arith, lit<}
-use Rattle.std.specs.Prelude.{decimal, IsTrue, codes, sum, nat_le}
-use Rattle.std.specs.List.{AllByRecursion, flat_map, list_all}
+use Rattle.std.proofs.Common.{◌≡◌, ℕ, zero, suc, ◌<◌, ◌≤◌, ◌^◌, List, [], ◌∷◌, ◌++◌, length, refl, sym, ap, ◌∙◌, subst, append_assoc, append-nil, arith, lit<}
+use Rattle.std.specs.Prelude.{decimal, IsTrue}
+use Rattle.std.specs.List.{AllByRecursion, flat_map}
 use Rattle.std.specs.Cmp.Derive.{both_true}
 use Rattle.ext_algebra.specs.declared.algebra.Algebra.{Algebra}
-use Rattle.ext_algebra.specs.Algebra.{is_element}
 use Rattle.mono_exp.specs.declared.exponent.Exp.{Exp}
 use Rattle.determinacy.specs.declared.row.MatherRow.{MatherRow}
 use Rattle.milnor_alg.specs.declared.quotient.TableRow.{TableRow}
@@ -20,7 +19,7 @@ use Rattle.cert_text.specs.declared.word.Word.TheVariants as words
 use Rattle.cert_text.specs.Words.{word_text}
 use Rattle.cert_text.specs.Text.{word_line, carried_text, unit_text, modulus_text, mather_text, table_text, basis_inside, monomials_text}
 use Rattle.cert_text.specs.BadText.{IsWholeLines}
-use Rattle.cert_text.specs.WellFormed.{IsWellFormedCarried, IsWellFormedUnresolved, AreRows, is_valid_modulus, is_monomial_in, IsRowOf, IsTableRowOf, IsFamily, is_low_monomial, is_unit_pair}
+use Rattle.cert_text.specs.WellFormed.{IsWellFormedCarried, IsWellFormedUnresolved, AreRows, is_valid_modulus, IsRowOf, IsTableRowOf, IsFamily, is_low_monomial, is_unit_pair}
 use Rattle.cert_law.specs.Unique.{IsSelfEnding}
 use Rattle.cert_law.specs.Fields.{Element, UnitPair, IsMonomial}
 use Rattle.cert_law.proofs.Valid.{all_from}

@@ -1,10 +1,10 @@
 -- What is known of the value of a block when some of its lines are read, and the texts that follow.
-use Rattle.std.specs.Prelude.{◌≡◌, ℕ, ◌<◌, ◌≤◌, ◌*◌, IsTrue, List, [], ◌∷◌, ◌++◌, length}
+use Rattle.std.specs.Prelude.{◌≡◌, ℕ, ◌<◌, ◌≤◌, IsTrue, List, [], ◌∷◌, ◌++◌, length}
 use Rattle.std.specs.List.{AllByRecursion, list_all}
 use Rattle.std.specs.Borrow.{Bor}
 use Rattle.ring_law.specs.declared.fraction.Frac.{Frac}
 use Rattle.ext_algebra.specs.declared.algebra.Ext.{Ext}
-use Rattle.ext_algebra.specs.Algebra.{is_element, is_algebra}
+use Rattle.ext_algebra.specs.Algebra.{is_algebra}
 use Rattle.jet_poly.specs.JetTerms.{JetTerms}
 use Rattle.poly_text.specs.declared.name.Name.{Name}
 use Rattle.poly_text.specs.Polynomials.{jet_text}

@@ -1,8 +1,8 @@
 -- Rows with multipliers by their texts.
-use Rattle.std.proofs.Common.{◌≡◌, ◌≢◌, ℕ, zero, suc, ◌+◌, ◌<◌, ◌≤◌, Bool, true, false, Option, Some, None, List, [], ◌∷◌, ◌++◌, length, length-append, refl, sym, ap, ◌∙◌, subst, append_assoc, append-nil, arith, IsTrue}
+use Rattle.std.proofs.Common.{◌≡◌, ◌≢◌, ℕ, zero, suc, ◌<◌, Bool, true, false, Option, Some, None, List, [], ◌∷◌, ◌++◌, length, refl, sym, ap, ◌∙◌, subst, append_assoc, append-nil}
 use Rattle.std.specs.Prelude.{codes, is_some, IfSome}
 use Rattle.std.specs.Borrow.{Bor}
-use Rattle.std.specs.List.{AllByRecursion, flat_map, list_all}
+use Rattle.std.specs.List.{flat_map}
 use Rattle.ring_law.specs.declared.fraction.Frac.{Frac}
 use Rattle.ext_algebra.specs.declared.algebra.Algebra.{Algebra}
 use Rattle.ext_algebra.specs.declared.algebra.Ext.{Ext}
@@ -21,7 +21,7 @@ use Rattle.text_reader.proofs.VisibleTexts.{visible-jet, visible-name}
 use Rattle.row_reader.specs.Rows.{IsNamedPart}
 use Rattle.row_reader.specs.Values.{AreElements, IsResidual}
 use Rattle.row_reader.specs.Words.{after_space, IsRest, lead}
-use Rattle.row_reader.proofs.Series.{Begins, IsItem, IsLine, IsReadTo, read_done, read_more, read_start, read_stuck, series, too_few, no_more}
+use Rattle.row_reader.proofs.Series.{Begins, IsLine, IsReadTo, read_done, read_more, read_start, read_stuck, series, too_few, no_more}
 use Rattle.row_reader.proofs.WordTexts.{IsWord, mark_one, monomial_one, rest_of, something_left, visible_word, word_is}
 
 abbrev Jet : Type 0

@@ -1,8 +1,8 @@
 -- Lines of elements and monomials by their texts.
-use Rattle.std.proofs.Common.{◌≡◌, ℕ, zero, suc, ◌+◌, ◌<◌, Bool, true, false, ◌&&◌, eqb, Option, Some, None, List, [], ◌∷◌, ◌++◌, length, length-append, refl, sym, ap, ◌∙◌, subst, append_assoc, append-nil, arith, IsTrue}
+use Rattle.std.proofs.Common.{◌≡◌, ℕ, suc, ◌<◌, Bool, true, false, eqb, Option, List, [], ◌∷◌, ◌++◌, length, length-append, refl, sym, ap, ◌∙◌, subst, append-nil, arith, IsTrue}
 use Rattle.std.specs.Prelude.{is_some, not, ◌↔◌}
 use Rattle.std.specs.Borrow.{Bor}
-use Rattle.std.specs.List.{AllByRecursion, flat_map, list_all}
+use Rattle.std.specs.List.{AllByRecursion, list_all}
 use Rattle.std.specs.Cmp.Derive.{both_true}
 use Rattle.ring_law.specs.declared.fraction.Frac.{Frac}
 use Rattle.ext_algebra.specs.declared.algebra.Algebra.{Algebra}
@@ -19,7 +19,7 @@ use Rattle.text_reader.specs.Reading.{IsTextOf}
 use Rattle.text_reader.proofs.PieceTexts.{is_empty_of, not_empty_of}
 use Rattle.row_reader.specs.Values.{AreElements, AreResidual, IsFunctionalValue, IsResidual, IsUnitPair}
 use Rattle.row_reader.specs.Words.{after_space, IsRest}
-use Rattle.row_reader.proofs.Series.{IsItem, IsLine, IsReadTo, read_done, read_more, read_start, read_stuck, series, too_few, no_more}
+use Rattle.row_reader.proofs.Series.{IsLine, IsReadTo, read_done, read_more, read_start, read_stuck, series, too_few, no_more}
 use Rattle.row_reader.proofs.WordTexts.{element_one, monomial_one, something_left}
 
 -- ---- two values

@@ -15,9 +15,9 @@ use Rattle.mono_exp.specs.declared.exponent.Exp.{Exp}
 use Rattle.mono_exp.specs.Exponents.{is_before}
 use Rattle.jet_poly.specs.JetTerms.{JetTerms, AllAfter, IsRising}
 use Rattle.jet_poly.proofs.Output.{rising-push}
+use Rattle.jet_poly.proofs.Coefficients.{before-trans}
 use Rattle.poly_text.specs.Numbers.{components_text, element_text, is_zero_fraction, product_text, signed_text, without_plus}
 use Rattle.poly_text.specs.Polynomials.{is_one, jet_text, new_names, polynomial_in, term_in}
-use Rattle.normal_forms.proofs.Insertion.{before-trans}
 use Rattle.cert_text.specs.WellFormed.{is_monomial_in, is_term_of, is_zero_element, IsJetOf}
 use Rattle.cert_law.specs.Fields.{IsHigher, IsMonomial}
 use Rattle.cert_law.specs.Unique.{Starts}
@@ -105,15 +105,10 @@ last_by [] t m = refl
 last_by (u ∷ []) t m = refl
 last_by (u ∷ v ∷ ts) t m = last_by (v ∷ ts) t m
 
-abbrev IsEight : Term → Type 0
-IsEight t = length t.0.e ≡ 8
-
-all_before : (ts : List Term) (t : Term) → AllByRecursion IsEight ts → IsEight t → IsRising ts → is_after_last ts t.0 ≡ true → AllByRecursion (λ u. is_before u.0.e t.0.e ≡ true) ts
-all_before [] t eights eight rising h = tt
-all_before (u ∷ []) t eights eight rising h = (h, tt)
-all_before (u ∷ v ∷ ts) t eights eight rising h =
-    let more = all_before (v ∷ ts) t eights.1 eight rising.1 h in
-    (before-trans u.0.e v.0.e t.0.e eights.0 eights.1.0 eight rising.0.0 more.0, more)
+all_before : (ts : List Term) (t : Term) → IsRising ts → is_after_last ts t.0 ≡ true → AllByRecursion (λ u. is_before u.0.e t.0.e ≡ true) ts
+all_before [] t rising h = tt
+all_before (u ∷ []) t rising h = (h, tt)
+all_before (u ∷ v ∷ ts) t rising h = let more = all_before (v ∷ ts) t rising.1 h in (before-trans u.0.e v.0.e t.0.e rising.0.0 more.0, more)
 
 -- of rising terms each stands after those before it
 pub after_there : (ts : List Term) (t : Term) (more : List Term) → IsRising (ts ++ t ∷ more) → is_after_last ts t.0 ≡ true
@@ -125,16 +120,11 @@ all_there : (p : Term → Bool) (xs : List Term) (t : Term) (more : List Term) �
 all_there p [] t more h = (both (p t) (list_all p more) h).0
 all_there p (x ∷ xs) t more h = all_there p xs t more (both (p x) (list_all p (xs ++ t ∷ more)) h).1
 
-eights_of : (n order : ℕ) (a : Algebra) (ts : List Term) → order < 256 → list_all (is_term_of n order a) ts ≡ true → AllByRecursion IsEight ts
-eights_of n order a [] lt h = tt
-eights_of n order a (t ∷ ts) lt h = let p = both (is_term_of n order a t) (list_all (is_term_of n order a) ts) h in ((valid_term n order a t lt p.0).monomial.eight, eights_of n order a ts lt p.1)
-
 -- one more term at the end
-pub terms_more : (n order : ℕ) (a : Algebra) (ts : List Term) (t : Term) (r : Bool) → order < 256 → AreTermsOf n order a ts → r ≡ (is_term_of n order a t && is_after_last ts t.0) → r ≡ true → AreTermsOf n order a (ts ++ t ∷ [])
-terms_more n order a ts t r lt are test holds =
-    let h = both (is_term_of n order a t) (is_after_last ts t.0) (sym test ∙ holds) in
-    let v = valid_term n order a t lt h.0 in record {
-      rising = rising-push ts t are.rising (all_before ts t (eights_of n order a ts lt are.valid) v.monomial.eight are.rising h.1);
+pub terms_more : (n order : ℕ) (a : Algebra) (ts : List Term) (t : Term) (r : Bool) → AreTermsOf n order a ts → r ≡ (is_term_of n order a t && is_after_last ts t.0) → r ≡ true → AreTermsOf n order a (ts ++ t ∷ [])
+terms_more n order a ts t r are test holds =
+    let h = both (is_term_of n order a t) (is_after_last ts t.0) (sym test ∙ holds) in record {
+      rising = rising-push ts t are.rising (all_before ts t are.rising h.1);
       valid = list_all-append (is_term_of n order a) ts (t ∷ []) ∙ both_true are.valid (both_true h.0 refl);
     }
 
@@ -309,10 +299,10 @@ step ts us sum rest t (u ∷ left) h e s r some =
     let is : us ≡ ts ++ t ∷ left = r.is ∙ ap (λ z. ts ++ z ∷ left) (sym k.0) in
     (left, record { is = is ∙ sym (append_assoc ts (t ∷ []) left); text = sym k.1; higher = r.higher.1 })
 
-pub read_on : (n order : ℕ) (a : Algebra) (from : List Term) (all : List ℕ) (ts : List Term) (sign : ℕ) (behind rest : List ℕ) (t : Term) (r : Bool) → order < 256 → IsReadUp n order a from all ts (sign ∷ behind) → IsHigherTerm t → sign ∷ behind ≡ term_text t ++ rest → Starts IsSign rest
+pub read_on : (n order : ℕ) (a : Algebra) (from : List Term) (all : List ℕ) (ts : List Term) (sign : ℕ) (behind rest : List ℕ) (t : Term) (r : Bool) → IsReadUp n order a from all ts (sign ∷ behind) → IsHigherTerm t → sign ∷ behind ≡ term_text t ++ rest → Starts IsSign rest
     → r ≡ (is_term_of n order a t && is_after_last ts t.0) → r ≡ true → IsReadUp n order a from all (ts ++ t ∷ []) rest
-read_on n order a from all ts sign behind rest t r lt so_far h e s test holds = record {
-  are = terms_more n order a ts t r lt so_far.are test holds;
+read_on n order a from all ts sign behind rest t r so_far h e s test holds = record {
+  are = terms_more n order a ts t r so_far.are test holds;
   text = so_far.text ∙ ap (λ z. terms_text ts ++ z) e ∙ sym (one_more ts t rest);
   found = λ more valid higher text.
       (let k = so_far.found more valid higher text in

@@ -1,4 +1,4 @@
-use Rattle.std.proofs.Common.{refl, ap, ◌∙◌, List, ℕ, ◌++◌, arith}
+use Rattle.std.proofs.Common.{refl, ap, ◌∙◌, List, ℕ, ◌++◌}
 use Rattle.poly_text.specs.Polynomials.{jet_text}
 use Rattle.cert_text.specs.Text.{word_line}
 use Rattle.cert_text.specs.WellFormed.{IsJetOf}

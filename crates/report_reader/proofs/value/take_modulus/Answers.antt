@@ -1,9 +1,7 @@
 use Rattle.std.proofs.Common.{refl}
-use Rattle.ext_algebra.specs.Algebra.{is_algebra}
 use Rattle.cert_text.specs.declared.word.Word.TheVariants as words
 use Rattle.cert_text.specs.Text.{algebra_text}
-use Rattle.cert_text.specs.WellFormed.{is_extension, IsExtension}
-use Rattle.cert_law.proofs.Valid.{both}
+use Rattle.cert_text.specs.WellFormed.{IsExtension}
 use Rattle.report_reader.proofs.Fronts.{value_at, line_absent}
 use Rattle.report_reader.proofs.CleanTexts.{extension_clean}
 use Rattle.report_reader.proofs.value.take_modulus.Goals as goal

@@ -1,4 +1,3 @@
-use Rattle.std.proofs.Common.{refl}
 use Rattle.cert_text.specs.Text.{multipliers_text}
 use Rattle.row_reader.proofs.RowTexts.{mather_behind, mather_rest, multipliers_rest}
 use Rattle.row_reader.proofs.row.read_mather_row.Goals as goal

@@ -1,4 +1,4 @@
-use Rattle.std.proofs.Common.{[], refl, sym, ◌∙◌, append-nil}
+use Rattle.std.proofs.Common.{[], sym, ◌∙◌, append-nil}
 use Rattle.row_reader.proofs.WordTexts.{something_left}
 use Rattle.row_reader.proofs.value.read_elements.Goals as goal
 use Rattle.cert_text.specs.Text.{values_text}

@@ -1,4 +1,4 @@
-use Rattle.std.proofs.Common.{◌≡◌, ◌++◌, ◌∷◌, [], List, refl, sym, ap, subst, ◌∙◌}
+use Rattle.std.proofs.Common.{◌≡◌, List, sym, subst, ◌∙◌}
 use Rattle.mono_exp.specs.declared.exponent.Exp.{Exp}
 use Rattle.row_reader.specs.Values.{AreResidual}
 use Rattle.row_reader.specs.Words.{after_space}

@@ -1,4 +1,4 @@
-use Rattle.std.proofs.Common.{refl, sym, ap, ◌∙◌}
+use Rattle.std.proofs.Common.{refl, sym}
 use Rattle.row_reader.specs.Words.{after_space}
 use Rattle.row_reader.proofs.WordTexts.{nothing_there, marked, word_is}
 use Rattle.row_reader.proofs.word.take_mark.Goals as goal

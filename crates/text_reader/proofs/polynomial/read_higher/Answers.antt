@@ -1,4 +1,4 @@
-use Rattle.std.proofs.Common.{◌&&◌, List, sym, ap, subst, ◌∙◌, arith}
+use Rattle.std.proofs.Common.{◌&&◌, List, sym, ap, subst, ◌∙◌}
 use Rattle.mono_exp.specs.declared.exponent.Exp.{Exp}
 use Rattle.ring_law.specs.declared.fraction.Frac.{Frac}
 use Rattle.ext_algebra.specs.declared.algebra.Ext.{Ext}
@@ -31,7 +31,7 @@ loop-sum-smaller c =
 pub loop-sum-preserved : goal.loop-sum-preserved
 loop-sum-preserved c =
     let some = c.in-Some-take_term.ensures.some in
-    let more = read_on c.args.n c.args.order c.args.a c.args.terms.items (joined c.args.sum) c.loop-sum.terms.items c.in-Some.sign c.in-Some.behind.now (joined c.in-Some-take_term.rest) c.in-Some-take_term.term c.is_next.result (omega arith)
+    let more = read_on c.args.n c.args.order c.args.a c.args.terms.items (joined c.args.sum) c.loop-sum.terms.items c.in-Some.sign c.in-Some.behind.now (joined c.in-Some-take_term.rest) c.in-Some-take_term.term c.is_next.result
     (subst (IsReadUp c.args.n c.args.order c.args.a c.args.terms.items (joined c.args.sum) c.loop-sum.terms.items) (ap joined c.in-Some.is) c.loop-sum.invariant)
     some.0 some.1 some.2
     (c.is_next.ensures ∙ ap (λ (ts : List (Exp × Ext Frac)). is_term_of c.args.n c.args.order c.args.a c.in-Some-take_term.term && is_after_last ts c.in-Some-take_term.term.0) c.deref.ensures.value)
