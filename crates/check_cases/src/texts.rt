@@ -1,5 +1,25 @@
 //! Texts of true reports, line by line. Each was found by hand and confirmed by another program.
 
+use std::alloc::Global;
+use std::test::*;
+
+pub const MEMORY: &str = "memory ran out";
+
+/// The text of these lines with the one at this place changed, and its end.
+pub fn changed(alloc: Global, lines: &[&[u8]], place: usize, line: &[u8]) -> Result<Vec<u8>, Fail> {
+    let mut text = Vec::new(alloc);
+    for (i, old) in lines.iter().enumerate() {
+        if i == place {
+            text.extend_from_slice(line)?;
+        } else {
+            text.extend_from_slice(old)?;
+        }
+        text.push(b'\n')?;
+    }
+    text.extend_from_slice(b"end\n")?;
+    Ok(text)
+}
+
 /// The cusp in one variable.
 pub const CUBIC: [&[u8]; 22] = [
     b"germ [x] x^3",

@@ -1,28 +1,11 @@
 //! The verdicts on true reports, and on reports with one line changed. Each was confirmed by another program.
 
-use crate::texts::{CUBIC, OUTSIDE, SQUARES, ZERO};
+use crate::texts::{CUBIC, MEMORY, OUTSIDE, SQUARES, ZERO, changed};
 use cert_check::check;
 use report_law::{Item, Verdict};
 use report_reader::read_report;
 use std::alloc::Global;
 use std::test::*;
-
-const MEMORY: &str = "memory ran out";
-
-// The text of these lines with the one at this place changed, and its end.
-fn changed(alloc: Global, lines: &[&[u8]], place: usize, line: &[u8]) -> Result<Vec<u8>, Fail> {
-    let mut text = Vec::new(alloc);
-    for (i, old) in lines.iter().enumerate() {
-        if i == place {
-            text.extend_from_slice(line)?;
-        } else {
-            text.extend_from_slice(old)?;
-        }
-        text.push(b'\n')?;
-    }
-    text.extend_from_slice(b"end\n")?;
-    Ok(text)
-}
 
 fn verdict_on(alloc: Global, text: &[u8]) -> Result<Verdict, Fail> {
     match read_report(alloc, text) {
