@@ -18,7 +18,7 @@ use Rattle.mono_exp.specs.declared.exponent.Exp.{Exp}
 use Rattle.mono_exp.specs.Exponents.{IsIn}
 use Rattle.mono_exp.proofs.Counting.{place}
 use Rattle.germ_law.proofs.Canonical.{stands_before}
-use Rattle.jet_law.specs.Terms.{exp_of, poly_of}
+use Rattle.jet_law.specs.Terms.{poly_of}
 use Rattle.jet_law.proofs.TermLemmas.{degree-exp_of}
 use Rattle.jet_poly.specs.JetTerms.{JetTerms, IsRising}
 use Rattle.jet_poly.specs.Jets.{IsJet}

@@ -1,4 +1,4 @@
-use Rattle.std.proofs.Common.{◌∙◌, refl, ap, subst}
+use Rattle.std.proofs.Common.{refl, ap, subst}
 use Rattle.poly_law.specs.Polynomials.{coefficient_in}
 use Rattle.jet_poly.specs.JetTerms.{IsRising}
 use Rattle.report_jet.proofs.OneJet.{one_jet, same_test}

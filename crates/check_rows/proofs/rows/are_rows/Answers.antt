@@ -1,4 +1,4 @@
-use Rattle.std.proofs.Common.{◌≡◌, ◌∙◌, ◌+◌, ◌≤◌, get_or, map, sym, ap, subst, sum, arith}
+use Rattle.std.proofs.Common.{◌∙◌, get_or, map, sym, ap, subst}
 use Rattle.ring_law.proofs.Exits.{faulted_by}
 use Rattle.mono_exp.specs.Exponents.{IsIn, exponents}
 use Rattle.jet_poly.specs.Jets.{polynomial_of}
