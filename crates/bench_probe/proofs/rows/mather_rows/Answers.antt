@@ -1,4 +1,4 @@
-use Rattle.std.proofs.Common.{◌≤◌, min, sym, subst, arith}
+use Rattle.std.proofs.Common.{arith}
 use Rattle.bench_probe.proofs.rows.mather_rows.Goals as goal
 
 pub add-requires-clause-order_at_most_17 : goal.add-requires-clause-order_at_most_17
