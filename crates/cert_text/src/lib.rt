@@ -4,8 +4,6 @@
 mod carrying;
 mod evidence;
 mod report;
-#[cfg(test)]
-mod tests;
 mod word;
 mod wording;
 mod writing;

@@ -3,8 +3,6 @@
 
 mod form;
 mod modulus;
-#[cfg(test)]
-mod tests;
 mod unit;
 
 pub use form::{is_in_pattern, is_named_form};

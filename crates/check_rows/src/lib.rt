@@ -16,6 +16,3 @@ pub use jets::{is_same_jet, monomial_jet};
 pub use monomials::have_same_exponents;
 pub use report::{are_mather_rows, is_determined, is_limit_functional};
 pub use rows::are_rows;
-
-#[cfg(test)]
-mod tests;

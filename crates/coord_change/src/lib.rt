@@ -11,8 +11,6 @@ mod matrix;
 mod parts;
 mod pullback;
 mod rows;
-#[cfg(test)]
-mod tests;
 mod unit;
 
 pub use change::{Change, ChangeOf};

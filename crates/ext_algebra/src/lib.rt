@@ -14,6 +14,3 @@ pub use algebra_ring::AlgebraRing;
 pub use field::{ExtError, ExtField};
 pub use rational_algebra::RationalAlgebra;
 pub use ring::ExtRing;
-
-#[cfg(test)]
-mod tests;

@@ -5,8 +5,6 @@ pub mod laws;
 mod power;
 mod substitution;
 mod table;
-#[cfg(test)]
-mod tests;
 mod truncated;
 
 pub use power::powers;

@@ -33,6 +33,3 @@ pub use sink::Sink;
 pub use source::Source;
 pub use standard::{StdSink, StdSource};
 pub use whole::write_whole;
-
-#[cfg(test)]
-mod tests;

@@ -11,6 +11,3 @@ pub use laws::{
     decided_in_one_variable, literal_exactly, not_critical_exactly, syntax_exactly,
     too_long_exactly, unbuilt_exactly,
 };
-
-#[cfg(test)]
-mod tests;

@@ -5,8 +5,6 @@ mod name;
 mod naming;
 mod number;
 mod polynomial;
-#[cfg(test)]
-mod tests;
 mod what;
 
 pub use name::Name;

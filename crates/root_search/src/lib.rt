@@ -112,6 +112,3 @@ pub fn least_root(a: i128, b: i128, c: i128) -> Option<i128>
         None
     }
 }
-
-#[cfg(test)]
-mod tests;

@@ -3,8 +3,6 @@
 
 mod part;
 mod row;
-#[cfg(test)]
-mod tests;
 mod value;
 mod word;
 

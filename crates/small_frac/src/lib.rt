@@ -10,6 +10,3 @@ pub use arithmetic::{add, inv, make_frac, mul, neg};
 pub use rationals::Rationals;
 pub use root::{rational_root_cubic, rational_root_quadratic};
 pub use square::{int_root2, is_square};
-
-#[cfg(test)]
-mod tests;
