@@ -4,3 +4,6 @@ pub mod Errors
 pub mod Inversions
 pub mod Linear
 pub mod InverseChanges
+pub mod Moves
+pub mod Carries
+pub mod CarryHeights
