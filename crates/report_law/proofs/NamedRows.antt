@@ -19,7 +19,8 @@ use Rattle.determinacy.specs.declared.row.MatherRow as printed
 use Rattle.poly_law.specs.Sums.{multiple}
 use Rattle.poly_law.specs.ExpList.{ExpList, exps}
 use Rattle.poly_law.specs.Exps.{variable}
-use Rattle.poly_law.specs.Poly.{coefficient, square, IsMatherRow, MatherRows}
+use Rattle.poly_law.specs.Poly.{coefficient, square, IsMatherRow, IsSplit, MatherRows}
+use Rattle.poly_law.specs.Laws.{InvertSquares}
 use Rattle.poly_law.proofs.ExpLists.{exps_are}
 use Rattle.poly_law.proofs.ExpLaws as exp_laws
 use Rattle.poly_law.proofs.LawsOverRings as over_rings
@@ -29,9 +30,12 @@ use Rattle.normal_forms.specs.Families.{kind_of}
 use Rattle.normal_forms.specs.Units.{unit_values}
 use Rattle.cert_text.specs.declared.report.Carried.{Carried}
 use Rattle.cert_text.specs.declared.report.Named as named_type
+use Rattle.cert_text.specs.WellFormed.{IsWellFormedNamed}
+use Rattle.line_syntax.specs.Syntax.{Line}
 use Rattle.jet_law.specs.Canonical.{monomial_in}
 use Rattle.report_law.specs.Polynomials.{jet_at, coefficient_at}
 use Rattle.report_law.specs.Items.{variables_of, ring_of, jet_of, residual_of, coefficients_of, squares_of, AreUnits, IsRowOf, AreMatherRows}
+use Rattle.report_law.specs.Valid.{NamedItem, named_items}
 use Rattle.report_law.specs.Meaning.{NamedHasRows}
 use Rattle.report_law.proofs.AllMonomials.{has_degree, degree_of_entries}
 use Rattle.report_law.proofs.Splitting.{is_split-is}
@@ -186,20 +190,37 @@ twice r c s b h e f =
     c.mul_comm (r.mul b h) (r.add s s) ∙ c.distrib s s (r.mul b h) ∙ ap₂ r.add (c.mul_comm s (r.mul b h)) (c.mul_comm s (r.mul b h)) in
     ap (r.mul (r.mul b h)) two ∙ split ∙ ap₂ r.add one_half one_half ∙ f
 
+-- ---- the printed form is split, with inverses of its squares' coefficients
+
+module _ (bytes : List ℕ) (l : Line) (r : named_type.Named) (form : IsWellFormedNamed r) (items : AllByRecursion (NamedItem bytes l r) named_items) where
+  -- the printed form is its residual part and the squares of the other variables
+  pub form_is_split : IsSplit (exps (variables_of r.carried)) (exps r.carried.corank) (ring_of r.carried) (jet_of r.carried) (residual_of r.carried)
+  form_is_split =
+      let c : Carried = r.carried in
+      is_split-is (variables_of c) c.corank form.carried.corank c.algebra (algebra_scalar_laws c.algebra).ring c.jet.terms (all_in (variables_of c) c.order c.algebra c.jet.terms form.carried.jet.terms)
+      items.1.1.1.1.0.split
+
+  -- half of the printed inverse of a square's coefficient
+  abbrev pub half_inverse : ℕ → Value r.carried.algebra
+  half_inverse w = (ops r.carried.algebra).mul (inverse_of r w) ((scalars r.carried.algebra).rational (rational (pos 1) 2))
+
+  -- it is inverse to twice the coefficient
+  pub squares_are_inverted : InvertSquares (scalars r.carried.algebra).ops (variables_of r.carried) r.carried.corank (jet_of r.carried) half_inverse
+  unfolding coefficient_at scalars
+  squares_are_inverted w past below =
+      let c : Carried = r.carried in
+      let s = scalars c.algebra in
+      let laws = algebra_scalar_laws c.algebra in
+      let n : ℕ = variables_of c in
+      twice s.ops laws.ring (coefficient (exps n) s.ops (jet_of c) (square (exps n) (exps c.corank) s.ops w)) (inverse_of r w) (s.rational (rational (pos 1) 2))
+      (subst (λ m. s.ops.mul (coefficient (exps n) s.ops (jet_of c) m) (inverse_of r w) ≡ s.ops.one) (square_is s.ops n c.corank w form.carried.few_names below) (squares_are_units r items.1.1.1.1.1.0 w past below))
+      (half_and_half s laws)
+
 pub named_has_rows : NamedHasRows
-unfolding coefficient_at
 named_has_rows bytes l r form items =
     let c : Carried = r.carried in
     let s = scalars c.algebra in
     let laws = algebra_scalar_laws c.algebra in
-    let n : ℕ = variables_of c in
-    let few : n ≤ 8 = form.carried.few_names in
-    let half = s.rational (rational (pos 1) 2) in
     let residual_rows = printed_rows c r.mather (omega (arith, form.carried.corank, form.carried.few_names)) items.1.1.1.1.1.1.1.0 in
-    let split = is_split-is n c.corank form.carried.corank c.algebra laws.ring c.jet.terms (all_in n c.order c.algebra c.jet.terms form.carried.jet.terms) items.1.1.1.1.0.split in
-    (over_rings.mather_split s.ops laws.ring (values_are_set s laws) n c.corank form.carried.corank (jet_of c) (residual_of c) split c.order form.carried.order_at_least).1
-    (λ w. s.ops.mul (inverse_of r w) half)
-    (λ w past below. twice s.ops laws.ring (coefficient (exps n) s.ops (jet_of c) (square (exps n) (exps c.corank) s.ops w)) (inverse_of r w) half
-    (subst (λ m. s.ops.mul (coefficient (exps n) s.ops (jet_of c) m) (inverse_of r w) ≡ s.ops.one) (square_is s.ops n c.corank w few below) (squares_are_units r items.1.1.1.1.1.0 w past below))
-    (half_and_half s laws))
-    residual_rows
+    (over_rings.mather_split s.ops laws.ring (values_are_set s laws) (variables_of c) c.corank form.carried.corank (jet_of c) (residual_of c) (form_is_split bytes l r form items) c.order form.carried.order_at_least).1
+    (half_inverse bytes l r form items) (squares_are_inverted bytes l r form items) residual_rows

@@ -5,7 +5,7 @@ mod item;
 mod verdict;
 mod wording;
 
-ghost use Rattle.report_law.specs.Meaning.{LimitHasNoRows, NamedHasRows, NamedIsFree};
+ghost use Rattle.report_law.specs.Meaning.{LimitHasNoRows, NamedHasRows, NamedIsFree, NamedIsFreeWhole};
 
 pub use item::Item;
 pub use verdict::{Finding, Verdict};
@@ -15,6 +15,12 @@ pub use wording::{item_bytes, put_finding, put_verdict};
 /// free with the printed basis, so that the Milnor number is their dimension.
 pub fn named_is_free()
     ensures { NamedIsFree }
+{}
+
+/// Of a valid named report the jets of the order in all variables, modulo the Jacobian ideal of the
+/// printed form, are free with the printed basis, so that the Milnor number is their dimension.
+pub fn named_is_free_whole()
+    ensures { NamedIsFreeWhole }
 {}
 
 /// The germ of a valid limit report does not meet Mather's condition at the order of the report or

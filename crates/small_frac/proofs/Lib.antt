@@ -8,3 +8,4 @@ pub mod RootLaws
 pub mod QuadraticRoots
 pub mod CubicRoots
 pub mod Constants
+pub mod Refusals

@@ -3,6 +3,8 @@ use Rattle.std.specs.Prelude.{◌≡◌, ◌≢◌, ◌⊎◌, Option, Result, M
 use Rattle.ring_theory.specs.Rational.{Rational, rational, rational_add, rational_mul, rational_inv}
 use Rattle.ring_law.specs.Fraction.{IsFrac, Represents, FitsFrac, AddFits, frac_value, ratio}
 use Rattle.ring_law.specs.declared.fraction.Frac.{Frac}
+use Rattle.ring_law.specs.Refusals.{RefusedBy}
+use Rattle.ring_law.specs.declared.fraction.Op.{Op}
 use Rattle.ring_law.specs.declared.fraction.Op.TheVariants.{Add, Mul}
 use Rattle.ring_law.specs.declared.fraction.Range.{Range}
 
@@ -17,6 +19,13 @@ abbrev pub IsExactProduct : Frac → Frac → Result Frac Range → Type 0
 IsExactProduct p q r =
     MatchResult r (λ f. Represents f (rational_mul (frac_value p) (frac_value q)))
     (λ e. (¬ FitsFrac (rational_mul (frac_value p) (frac_value q))) × (e ≡ record { a = p; b = q; op = Mul }))
+
+-- e is the refusal of this operation on the fractions with the values x and y
+pub record IsRefusalOf (op : Op) (x y : Rational) (e : Range) : Type 0 where
+  pub operation : e.op ≡ op
+  pub left : Represents e.a x
+  pub right : Represents e.b y
+  pub refused : RefusedBy op e.a e.b
 
 -- n / d in lowest terms, and nothing exactly where d is 0 or a reduced part is above 2^127 - 1 in absolute value
 abbrev pub IsReducedOf : ℤ → ℤ → Option Frac → Type 0

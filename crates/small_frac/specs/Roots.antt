@@ -4,6 +4,9 @@ use Rattle.ring_theory.specs.Height.{most, product_height, sum_height, common_de
 use Rattle.ring_theory.specs.Rational.{Rational, rational, rational_add, rational_mul, rational_neg, rational_ops}
 use Rattle.ring_law.specs.Fraction.{IsFrac, frac_value}
 use Rattle.ring_law.specs.declared.fraction.Frac.{Frac}
+use Rattle.ring_law.specs.declared.fraction.Op.TheVariants.{Add, Mul}
+use Rattle.ring_law.specs.declared.fraction.Range.{Range}
+use Rattle.small_frac.specs.Exact.{IsRefusalOf}
 use Rattle.ext_theory.specs.Extension.{Quadratic, Cubic, quadratic_at, cubic_at}
 
 -- p ≤ q: the numerator of q - p is not negative
@@ -48,6 +51,12 @@ unfoldable pub discriminant_height : Quadratic Rational → ℕ
 discriminant_height m =
     most (product_height m.c1 m.c1 ∷ product_height four m.c0 ∷ sum_height (rational_mul m.c1 m.c1 ∷ rational_neg (rational_mul four m.c0) ∷ []) ∷ [])
 
+-- e is the refusal of one of its operations
+pub data DiscriminantRefuses (m : Quadratic Rational) (e : Range) : Type 0 where
+  square : IsRefusalOf Mul m.c1 m.c1 e → DiscriminantRefuses m e
+  four_times : IsRefusalOf Mul four m.c0 e → DiscriminantRefuses m e
+  difference : IsRefusalOf Add (rational_mul m.c1 m.c1) (rational_neg (rational_mul four m.c0)) e → DiscriminantRefuses m e
+
 -- (x + y) / 2
 abbrev pub half_sum : Rational → Rational → Rational
 half_sum x y = rational_mul (rational_add x y) half
@@ -55,6 +64,11 @@ half_sum x y = rational_mul (rational_add x y) half
 -- the height of that
 unfoldable pub half_sum_height : Rational → Rational → ℕ
 half_sum_height x y = most (sum_height (x ∷ y ∷ []) ∷ product_height (rational_add x y) half ∷ [])
+
+-- e is the refusal of one of its operations
+pub data HalfSumRefuses (x y : Rational) (e : Range) : Type 0 where
+  sum : IsRefusalOf Add x y e → HalfSumRefuses x y e
+  halving : IsRefusalOf Mul (rational_add x y) half e → HalfSumRefuses x y e
 
 -- r is the root of the discriminant that is not negative
 pub record IsDiscriminantRoot (m : Quadratic Rational) (r : Rational) : Type 0 where
@@ -66,6 +80,12 @@ pub data QuadraticIsHigh (m : Quadratic Rational) : Type 0 where
   discriminant_high : 2 ^ 120 ≤ discriminant_height m → QuadraticIsHigh m
   low_high : (r : Rational) → IsDiscriminantRoot m r → 2 ^ 120 ≤ half_sum_height (rational_neg m.c1) (rational_neg r) → QuadraticIsHigh m
   high_high : (r : Rational) → IsDiscriminantRoot m r → 2 ^ 120 ≤ half_sum_height (rational_neg m.c1) r → QuadraticIsHigh m
+
+-- e is the refusal of an operation of m1 m1 - 4 m0, of (-m1 - r)/2 or of (-m1 + r)/2, for the root r of the first
+pub data QuadraticRefuses (m : Quadratic Rational) (e : Range) : Type 0 where
+  in_discriminant : DiscriminantRefuses m e → QuadraticRefuses m e
+  in_low : (r : Rational) → IsDiscriminantRoot m r → HalfSumRefuses (rational_neg m.c1) (rational_neg r) e → QuadraticRefuses m e
+  in_high : (r : Rational) → IsDiscriminantRoot m r → HalfSumRefuses (rational_neg m.c1) r e → QuadraticRefuses m e
 
 -- ---- degree 3
 

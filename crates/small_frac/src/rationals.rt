@@ -1,5 +1,13 @@
 //! The field of the rational numbers, with fractions as its elements.
 
+ghost use Rattle.std.specs.Prelude.{◌≡◌, ◌≢◌, ◌≤◌, ◌^◌, IfOk, IfSome, IsOk, MatchOption};
+ghost use Rattle.ring_theory.specs.Height.{product_height, inverse_height, rational_scalars};
+ghost use Rattle.ring_theory.specs.Rational.{rational_add, rational_mul, rational_inv, rational_ops};
+ghost use Rattle.ring_theory.specs.Scalars.{SumIsHigh};
+ghost use Rattle.ring_law.specs.Fraction.{IsFrac, frac_value};
+ghost use Rattle.ring_law.specs.Refusals.{OnRange};
+ghost use Rattle.small_frac.specs.Exact.{IsExactSum, IsExactProduct, IsInverseOf};
+
 use crate::arithmetic;
 use ring_law::{Field, Frac, Range, Ring};
 
@@ -42,11 +50,25 @@ impl Ring for Rationals {
         a == b
     }
 
-    fn add(&self, a: Frac, b: Frac) -> Result<Frac, Range> {
+    fn add(&self, a: Frac, b: Frac) -> Result<Frac, Range>
+        requires left { IsFrac a }
+        requires right { IsFrac b }
+        ensures elem { IfOk result (λ f. IsFrac f) }
+        ensures value { IfOk result (λ f. frac_value f ≡ rational_add (frac_value a) (frac_value b)) }
+        ensures cause { OnRange result (SumIsHigh rational_scalars (frac_value a) (frac_value b)) }
+        ensures exact { IsExactSum a b result }
+    {
         arithmetic::add(a, b)
     }
 
-    fn mul(&self, a: Frac, b: Frac) -> Result<Frac, Range> {
+    fn mul(&self, a: Frac, b: Frac) -> Result<Frac, Range>
+        requires left { IsFrac a }
+        requires right { IsFrac b }
+        ensures elem { IfOk result (λ f. IsFrac f) }
+        ensures value { IfOk result (λ f. frac_value f ≡ rational_mul (frac_value a) (frac_value b)) }
+        ensures cause { OnRange result (2 ^ 120 ≤ product_height (frac_value a) (frac_value b)) }
+        ensures exact { IsExactProduct a b result }
+    {
         arithmetic::mul(a, b)
     }
 }
@@ -56,7 +78,15 @@ impl Field for Rationals {
 
     ghost inverts = { λ _ _. rational_inverts };
 
-    fn inv(&self, a: Frac) -> Result<Option<Frac>, Range> {
+    fn inv(&self, a: Frac) -> Result<Option<Frac>, Range>
+        requires elem { IsFrac a }
+        ensures zero { IfOk result (λ o. MatchOption o (frac_value a ≡ rational_ops.zero) (λ _. frac_value a ≢ rational_ops.zero)) }
+        ensures elem { IfOk result (λ o. IfSome o (λ f. IsFrac f)) }
+        ensures value { IfOk result (λ o. IfSome o (λ f. frac_value f ≡ rational_inv (frac_value a))) }
+        ensures cause { OnRange result (2 ^ 120 ≤ inverse_height (frac_value a)) }
+        ensures exact { IfOk result (IsInverseOf a) }
+        ensures answered { IsOk result }
+    {
         Ok(arithmetic::inv(a))
     }
 }

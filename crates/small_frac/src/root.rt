@@ -4,7 +4,7 @@ ghost use Rattle.std.specs.Prelude.{◌≡◌, ℕ, ◌/◌, ◌<◌, ◌≤◌,
 ghost use Rattle.ring_theory.specs.Height.{lcm};
 ghost use Rattle.ring_law.specs.Fraction.{IsFrac, frac_value};
 ghost use Rattle.ring_law.specs.Refusals.{OnRange};
-ghost use Rattle.small_frac.specs.Roots.{HasRoots, QuadraticIsHigh, quadratic_of, discriminant, discriminant_height, half_sum, half_sum_height, HasLeastRoot, cubic_of, cubic_den, cubic_root_height};
+ghost use Rattle.small_frac.specs.Roots.{HasRoots, QuadraticIsHigh, QuadraticRefuses, DiscriminantRefuses, HalfSumRefuses, quadratic_of, discriminant, discriminant_height, half_sum, half_sum_height, HasLeastRoot, cubic_of, cubic_den, cubic_root_height};
 ghost use Rattle.small_frac.specs.Scaled.{IsScaled, multiple_of};
 
 use crate::Rationals;
@@ -24,6 +24,7 @@ fn discriminant(m1: Frac, m0: Frac) -> Result<Frac, Range>
     ensures elem { IfOk result (λ d. IsFrac d) }
     ensures value { IfOk result (λ d. frac_value d ≡ discriminant (quadratic_of m1 m0)) }
     ensures cause { OnRange result (2 ^ 120 ≤ discriminant_height (quadratic_of m1 m0)) }
+    ensures refused { IfErr result (DiscriminantRefuses (quadratic_of m1 m0)) }
 {
     let square = Rationals.mul(m1, m1)?;
     let product = Rationals.mul(FOUR, m0)?;
@@ -37,6 +38,7 @@ fn half_sum(x: Frac, y: Frac) -> Result<Frac, Range>
     ensures elem { IfOk result (λ d. IsFrac d) }
     ensures value { IfOk result (λ d. frac_value d ≡ half_sum (frac_value x) (frac_value y)) }
     ensures cause { OnRange result (2 ^ 120 ≤ half_sum_height (frac_value x) (frac_value y)) }
+    ensures refused { IfErr result (HalfSumRefuses (frac_value x) (frac_value y)) }
 {
     let sum = Rationals.add(x, y)?;
     Rationals.mul(sum, HALF)
@@ -44,12 +46,14 @@ fn half_sum(x: Frac, y: Frac) -> Result<Frac, Range>
 
 /// Both rational roots of `t^2 + m1*t + m0`, the smaller first, or `None` where there is none.
 ///
-/// Errors: `Range`, only where an operation of `m1*m1 - 4*m0`, `(-m1 - r)/2` or `(-m1 + r)/2` has height 2^120 or more, r the root of the first.
+/// Errors: `Range`, only where an operation of `m1*m1 - 4*m0`, `(-m1 - r)/2` or `(-m1 + r)/2` is refused, r the root of the first;
+/// it is the refusal of that operation, and the operation has height 2^120 or more.
 pub fn rational_root_quadratic(m1: Frac, m0: Frac) -> Result<Option<(Frac, Frac)>, Range>
     requires m1_valid { IsFrac m1 }
     requires m0_valid { IsFrac m0 }
     ensures roots { IfOk result (HasRoots m1 m0) }
     ensures cause { OnRange result (QuadraticIsHigh (quadratic_of m1 m0)) }
+    ensures refused { IfErr result (QuadraticRefuses (quadratic_of m1 m0)) }
 {
     let square = discriminant(m1, m0)?;
     let Some(root) = is_square(square) else {
