@@ -1,47 +1,78 @@
 #!/usr/bin/env bash
-# Times calculations of the lower crates by the program bench_probe: a million products and inverses in a cubic field, a million searches
-# for a root of a cubic, squares of dense jets, the rows of Mather's test of a dense germ, substitutions, and
-# Mather's test and the quotient of the germs of lines. For each: its two counts, seconds, peak memory.
+# Times calculations by lines of the program probe: a million products and inverses in a cubic field, a million searches for a root of a cubic,
+# products of dense jets, substitutions in dense jets, and Mather's test and the quotient of germs, dense ones among them. For each: the
+# beginning of its answer, seconds, peak memory. With words: the line that they make.
 set -eu
 top="$(cd "$(dirname "${BASH_SOURCE[0]}")/.." && pwd)"
-probe="$top/crates/bench_probe/out/bench_probe"
-[ -x "$probe" ] || (cd "$top/crates/bench_probe" && rt run -- products 1 >/dev/null)
+probe="$top/crates/probe/out/probe"
+[ -x "$probe" ] || (cd "$top/crates/probe" && rt run <stdin >/dev/null)
+answer="$(mktemp)"
+trap 'rm -f "$answer"' EXIT
 
-# timed WORD..: runs the program, with its peak memory as the kernel last told it.
+# timed WORD..: answers the line of these words, with the program's peak memory as the kernel last told it.
 timed() {
-    local start end process peak now counts
-    counts="$(mktemp)"
-    peak=0
+    local start end process peak=0 now
     start="$(date +%s.%N)"
-    "$probe" "$@" >"$counts" &
+    printf '%s\n' "$*" | "$probe" >"$answer" &
     process=$!
     while now="$(awk '/VmHWM/ { print $2 }' "/proc/$process/status" 2>/dev/null)" && [ -n "$now" ]; do peak="$now"; done
     wait "$process"
     end="$(date +%s.%N)"
-    awk -v words="$*" -v counts="$(cat "$counts")" -v a="$start" -v b="$end" -v peak="$peak" \
-        'BEGIN { printf "%-24s counts %s, seconds %.2f, peak memory %s kB\n", words, counts, b - a, peak }'
-    rm -f "$counts"
+    awk -v words="$*" -v text="$(cat "$answer")" -v a="$start" -v b="$end" -v peak="$peak" \
+        'BEGIN { printf "%-60.60s %-24.24s seconds %6.2f, peak memory %s kB\n", words, text, b - a, peak }'
+}
+
+# dense VARIABLES LOW HIGH MOST LEFT [NAMES]: the first so many monomials in the variables u1 to un, or in these names, of degree LOW to HIGH, with small
+# coefficients, of which the first LEFT are left out.
+dense() {
+    awk -v n="$1" -v low="$2" -v high="$3" -v most="$4" -v place="$5" -v names="${6:-}" '
+    function divisor(a, b) { return b ? divisor(b, a % b) : a }
+    function coefficient(i,   p, q, d) { p = i % 5 + 1; q = i % 4 + 1; d = divisor(p, q); return (i % 3 ? "+" : "-") (p / d) (q / d > 1 ? "/" q / d : "") }
+    function term(exponents,   c, body, sign) {
+        body = ""
+        for (v = 1; v <= n; v++) if (exponents[v]) body = body "*" name[v] (exponents[v] > 1 ? "^" exponents[v] : "")
+        c = coefficient(place++)
+        if (body != "" && substr(c, 2) == "1") { sign = substr(c, 1, 1); c = sign; body = substr(body, 2) }
+        text = text c body
+        count++
+    }
+    function all(v, left,   e) {
+        if (count >= most) return
+        if (v == n) { exponents[v] = left; term(exponents); return }
+        for (e = left; e >= 0; e--) { exponents[v] = e; all(v + 1, left - e) }
+    }
+    BEGIN {
+        if (!split(names, name, ",")) for (v = 1; v <= n; v++) name[v] = "u" v
+        for (degree = low; degree <= high; degree++) all(1, degree)
+        sub(/^\+/, "", text)
+        print text
+    }'
 }
 
 if [ $# -gt 0 ]; then
     timed "$@"
     exit
 fi
-timed products 1000000
-timed inverses 1000000
-timed roots 1000000
-timed jets 3 16 969
-timed jets 8 12 500
-for order in 6 8 10; do
-    timed rows "$order" 4
+timed repeat 1000000 element product 't^3-2' '-7/3+2*t-5/2*t^2' '4/5-t+8/3*t^2'
+timed repeat 1000000 element inverse 't^3-2' 0 0 '-7/3+2*t-5/2*t^2'
+timed repeat 1000000 number root-cubic 79225091884405108389834752 85968058271978839505460 -85968058271978839424
+f="$(dense 3 0 16 969 0)"
+timed jet mul Q 3 16 "$f" "$f"
+f="$(dense 8 0 12 500 0)"
+timed jet mul Q 8 12 "$f" "$f"
+timed jet subst Q 3 12 3 "$(dense 3 2 12 451 0)" "$(dense 3 1 2 99 0)" "$(dense 3 1 2 99 1)" "$(dense 3 1 2 99 2)"
+for low in 2 6; do
+    parts=
+    for i in 0 1 2 3 4 5 6 7; do parts="$parts $(dense 8 1 1 8 $i)"; done
+    timed "jet subst Q 8 12 8 $(dense 8 $low 12 300 0)$parts"
 done
-timed quadratic 3 12 451 2
-timed linear 8 12 300 2
-timed linear 8 12 300 6
 local_algebra() {
-    timed mather "$@"
-    timed quotient "$@"
+    timed germ mather "$@"
+    timed germ quotient "$@"
 }
+for order in 6 8 10; do
+    local_algebra "$order" "[x,y,z] x^3+y^3+z^3+$(dense 3 4 "$order" 1000 1 x,y,z)"
+done
 local_algebra 5 'x^3+y^5'
 local_algebra 8 'x^3+3*x^2*y^2+y^7'
 local_algebra 6 'x*y*z+x^4+y^5+z^6'

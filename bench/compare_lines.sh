@@ -1,16 +1,16 @@
 #!/usr/bin/env bash
-# compare_lines.sh LINES OTHER..: runs the probe of the line reader and another reader (a command with its words) on the
-# same file of lines, and counts where they differ. Lines that the probe answers `range` are counted apart.
+# compare_lines.sh LINES OTHER..: has the program probe read a file of lines at the order limit 12, gives the same file to another reader (a command with its words),
+# and counts where they differ. Lines that probe answers `range` are counted apart.
 set -eu
 top="$(cd "$(dirname "${BASH_SOURCE[0]}")/.." && pwd)"
 lines="$1"
 shift
-probe="$top/crates/line_probe/out/line_probe"
-[ -x "$probe" ] || (cd "$top/crates/line_probe" && rt run </dev/null >/dev/null)
+probe="$top/crates/probe/out/probe"
+[ -x "$probe" ] || (cd "$top/crates/probe" && rt run <stdin >/dev/null)
 ours="$(mktemp)"
 theirs="$(mktemp)"
 trap 'rm -f "$ours" "$theirs"' EXIT
-"$probe" <"$lines" >"$ours"
+sed 's/^/report read 12 /' "$lines" | "$probe" >"$ours"
 "$@" <"$lines" >"$theirs"
 paste -d '\n' "$ours" "$theirs" | awk 'NR % 2 == 1 { ours = $0; next }
     ours == $0 { same++; next }

@@ -11,3 +11,5 @@ mod checks;
 mod faults;
 #[cfg(test)]
 mod rows;
+#[cfg(test)]
+mod streams;

@@ -1,7 +1,0 @@
-use Rattle.std.proofs.Common.{refl}
-use Rattle.ext_algebra.specs.Algebra.{value_in}
-use Rattle.form_cases.proofs.modulus.constant.Goals as goal
-
-pub returns-clause-value : goal.returns-clause-value
-unfolding value_in
-returns-clause-value c = refl

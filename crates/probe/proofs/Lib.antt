@@ -1,0 +1,4 @@
+mod Constants
+mod LowTerms
+mod Rationals
+mod RowLemmas

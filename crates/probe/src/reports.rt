@@ -1,0 +1,146 @@
+//! What is read of lines, and reports that are read, written again and checked. Where a report stands in one line, a bar stands for each newline.
+
+ghost use Rattle.std.specs.Prelude.{◌≡◌, length};
+
+use crate::words::{Stop, Words};
+use cert_check::check;
+use cert_text::write_report;
+use line_germ::{Germ, Read, read_line};
+use line_io::MAX_LINE;
+use poly_text::{Name, What, put_name, put_number, put_polynomial};
+use report_jet::lifted_jet;
+use report_law::{Finding, put_finding};
+use report_reader::{ReadError, read_report};
+use std::alloc::{AllocError, Global};
+
+// The bytes with another one for each of these.
+fn replaced(alloc: Global, bytes: &[u8], from: u8, to: u8) -> Result<Vec<u8>, AllocError> {
+    let mut all = Vec::new(alloc);
+    for byte in bytes {
+        all.push(if *byte == from { to } else { *byte })?;
+    }
+    Ok(all)
+}
+
+// Appends the names with commas between them, in brackets.
+fn put_names(out: &mut Vec<u8>, names: &[Name]) -> Result<(), AllocError> {
+    out.push(b'[')?;
+    for (i, name) in names.iter().enumerate() {
+        if i > 0 {
+            out.push(b',')?;
+        }
+        put_name(out, name)?;
+    }
+    out.push(b']')?;
+    Ok(())
+}
+
+// Appends the names, the order and the polynomial of a germ.
+fn put_germ(alloc: Global, out: &mut Vec<u8>, germ: &Germ) -> Result<(), Stop> {
+    let names = germ.names.as_slice();
+    out.extend_from_slice(b"germ ")?;
+    put_names(out, names)?;
+    out.push(b' ')?;
+    put_number(out, u64::from(germ.order))?;
+    out.push(b' ')?;
+    let f = lifted_jet(alloc, &germ.jet)?;
+    Ok(put_polynomial(alloc, out, names, &f)?)
+}
+
+// Appends a word, a column, and what stands there.
+fn put_column(
+    out: &mut Vec<u8>,
+    word: &[u8],
+    column: u32,
+    what: &[u8],
+) -> Result<(), AllocError> {
+    out.extend_from_slice(word)?;
+    put_number(out, u64::from(column))?;
+    out.extend_from_slice(what)
+}
+
+/// Appends what is read of a line up to an order limit from 3 to 16.
+pub(crate) fn put_read(
+    alloc: Global,
+    limit: u8,
+    line: &[u8],
+    out: &mut Vec<u8>,
+) -> Result<(), Stop> {
+    if limit < 3 || limit > 16 || line.len() > MAX_LINE {
+        return Err(Stop::Words);
+    }
+    match read_line(alloc, line, limit)? {
+        Read::Germ(germ) => put_germ(alloc, out, &germ),
+        Read::Syntax { column, what } => {
+            let what: &[u8] = match what {
+                What::Byte => b" byte",
+                What::End => b" end",
+            };
+            Ok(put_column(out, b"syntax ", column, what)?)
+        }
+        Read::Literal { column } => Ok(put_column(out, b"literal ", column, b"")?),
+        Read::Range => Err(Stop::Range),
+        Read::NotCritical { variable } => {
+            out.extend_from_slice(b"not-critical ")?;
+            Ok(put_name(out, &variable)?)
+        }
+    }
+}
+
+// The longest lines are not written out: first, so many times the next word, and what is left.
+fn repeated(alloc: Global, words: &mut Words) -> Result<Vec<u8>, Stop> {
+    let count: u16 = words.number(alloc)?;
+    let mut line = Vec::new(alloc);
+    line.extend_from_slice(words.next())?;
+    let piece = words.next();
+    for _i in 0..count {
+        line.extend_from_slice(piece)?;
+    }
+    line.extend_from_slice(words.rest)?;
+    Ok(line)
+}
+
+// Appends the text of the report that is read from a text, or what the checker finds of the text.
+fn put_report(
+    alloc: Global,
+    text: &[u8],
+    is_check: bool,
+    out: &mut Vec<u8>,
+) -> Result<(), Stop> {
+    match read_report(alloc, text) {
+        Ok(report) => {
+            if is_check {
+                let verdict = check(alloc, &report)?;
+                return Ok(put_finding(out, Finding::Report(verdict))?);
+            }
+            let text = write_report(alloc, &report)?;
+            Ok(out.extend_from_slice(&replaced(alloc, &text, b'\n', b'|')?)?)
+        }
+        Err(ReadError::BadText { offset }) => {
+            Ok(put_finding(out, Finding::BadText { offset })?)
+        }
+        Err(ReadError::NoMemory) => Err(Stop::NoMemory),
+    }
+}
+
+/// Appends what is read of a line, or done with a report.
+pub(crate) fn calculate(
+    alloc: Global,
+    command: &[u8],
+    words: &mut Words,
+    out: &mut Vec<u8>,
+) -> Result<(), Stop> {
+    match command {
+        b"read" => {
+            let limit = words.small()?;
+            put_read(alloc, limit, words.rest, out)
+        }
+        b"read-repeated" => {
+            let limit = words.small()?;
+            put_read(alloc, limit, &repeated(alloc, words)?, out)
+        }
+        b"copy" => put_report(alloc, &replaced(alloc, words.rest, b'|', b'\n')?, false, out),
+        b"check" => put_report(alloc, &replaced(alloc, words.rest, b'|', b'\n')?, true, out),
+        _ => Err(Stop::Words),
+    }
+}

@@ -1,0 +1,286 @@
+//! Elements of an algebra, and jets over it, from the words of a line.
+
+ghost use Rattle.std.specs.Prelude.{◌≡◌, ◌≤◌, All, IfOk, IsTrue, length};
+ghost use Rattle.ext_algebra.specs.Algebra.{IsAlgebra, IsElement};
+ghost use Rattle.ext_algebra.specs.declared.algebra.Ext.{Ext as ExtOf};
+ghost use Rattle.ring_law.specs.declared.fraction.Frac.{Frac as FracOf};
+ghost use Rattle.mono_exp.specs.Exponents.{IsIn};
+ghost use Rattle.jet_poly.specs.Jets.{IsJet};
+ghost use Rattle.jet_subst.specs.Parts.{IsPart};
+ghost use Rattle.probe.specs.Over.{IsOver};
+
+use crate::words::{Stop, Words};
+use crate::{changes, forms, jets, rows, texts};
+use ext_algebra::{Algebra, AlgebraRing, Ext, ExtError, ExtField, ExtRing, RationalAlgebra};
+use jet_poly::{Jet, from_terms};
+use mono_exp::Exp;
+use poly_text::{put_element, put_fraction, write_poly};
+use ring_law::{Field, Frac, Ring};
+use small_frac::Rationals;
+use std::alloc::Global;
+use text_reader::{read_algebra, read_element, read_polynomial};
+
+/// A field whose elements are those of an algebra, and how many variables and which order a line is about.
+#[derive(Drop)]
+pub(crate) struct Over<F: Drop> {
+    pub(crate) field: F,
+    pub(crate) algebra: Algebra,
+    pub(crate) n: u8,
+    pub(crate) order: u8,
+}
+
+impl<F: Field<Elem = Ext<Frac>> + Drop> Over<F> {
+    /// The element that the next word spells.
+    pub(crate) fn element(&self, words: &mut Words) -> Result<Ext<Frac>, Stop>
+        requires over { IsOver (F.is_ring self.now.field) (F.meaning self.now.field) self.now.algebra self.now.n self.now.order }
+        ensures elem { IfOk result (F.meaning self.now.field).is_elem }
+    {
+        read_element(self.algebra, words.next()).ok_or(Stop::Words)
+    }
+
+    /// The elements that the next words spell.
+    pub(crate) fn elements(
+        &self,
+        alloc: Global,
+        words: &mut Words,
+        count: usize,
+    ) -> Result<Vec<Ext<Frac>>, Stop>
+        requires over { IsOver (F.is_ring self.now.field) (F.meaning self.now.field) self.now.algebra self.now.n self.now.order }
+        ensures elems { IfOk result (λ v. All (F.meaning self.now.field).is_elem v.items) }
+        ensures count { IfOk result (λ v. length v.items ≡ count) }
+    {
+        let mut elements = Vec::new(alloc);
+        for _i in 0..count {
+            elements.push(self.element(words)?)?;
+        }
+        Ok(elements)
+    }
+
+    /// The terms in n variables of the polynomials that the next words spell.
+    pub(crate) fn terms(
+        &self,
+        alloc: Global,
+        words: &mut Words,
+        n: u8,
+        count: u8,
+    ) -> Result<Vec<(Exp, Ext<Frac>)>, Stop>
+        requires over { IsOver (F.is_ring self.now.field) (F.meaning self.now.field) self.now.algebra self.now.n self.now.order }
+        ensures elems { IfOk result (λ v. All (λ t. (F.meaning self.now.field).is_elem t.1) v.items) }
+        ensures variables { IfOk result (λ v. All (λ t. IsIn n t.0.e) v.items) }
+    {
+        let mut terms = Vec::new(alloc);
+        for _i in 0..count {
+            match read_polynomial(alloc, self.algebra, n, 17, words.next())? {
+                Some(f) => terms.extend_from_slice(f.terms())?,
+                None => return Err(Stop::Words),
+            }
+        }
+        Ok(terms)
+    }
+
+    /// The jet in n variables of the polynomial that the next word spells.
+    pub(crate) fn jet_in(
+        &self,
+        alloc: Global,
+        words: &mut Words,
+        n: u8,
+    ) -> Result<Jet<Ext<Frac>>, Stop>
+        requires over { IsOver (F.is_ring self.now.field) (F.meaning self.now.field) self.now.algebra self.now.n self.now.order }
+        requires at_most_8_variables { n ≤ 8 }
+        ensures jet { IfOk result (IsJet (F.meaning self.now.field)) }
+        ensures n { IfOk result (λ f. f.n ≡ n) }
+        ensures order { IfOk result (λ f. f.order ≡ self.now.order) }
+    {
+        let terms = self.terms(alloc, words, n, 1)?;
+        Ok(from_terms(alloc, &self.field, n, self.order, &terms)?)
+    }
+
+    /// The same in the line's number of variables.
+    pub(crate) fn jet(&self, alloc: Global, words: &mut Words) -> Result<Jet<Ext<Frac>>, Stop>
+        requires over { IsOver (F.is_ring self.now.field) (F.meaning self.now.field) self.now.algebra self.now.n self.now.order }
+        ensures jet { IfOk result (IsJet (F.meaning self.now.field)) }
+        ensures n { IfOk result (λ f. f.n ≡ self.now.n) }
+        ensures order { IfOk result (λ f. f.order ≡ self.now.order) }
+    {
+        self.jet_in(alloc, words, self.n)
+    }
+
+    /// As many jets in n variables as the line is about.
+    pub(crate) fn parts(
+        &self,
+        alloc: Global,
+        words: &mut Words,
+        n: u8,
+    ) -> Result<Vec<Jet<Ext<Frac>>>, Stop>
+        requires over { IsOver (F.is_ring self.now.field) (F.meaning self.now.field) self.now.algebra self.now.n self.now.order }
+        requires at_most_8_variables { n ≤ 8 }
+        ensures count { IfOk result (λ v. length v.items ≡ self.now.n) }
+        ensures parts { IfOk result (λ v. All (IsPart (F.meaning self.now.field) n) v.items) }
+        ensures orders { IfOk result (λ v. All (λ p. p.order ≡ self.now.order) v.items) }
+    {
+        let mut parts = Vec::new(alloc);
+        for _i in 0..self.n {
+            parts.push(self.jet_in(alloc, words, n)?)?;
+        }
+        Ok(parts)
+    }
+}
+
+/// Appends elements with spaces between them.
+pub(crate) fn put_elements(
+    alloc: Global,
+    out: &mut Vec<u8>,
+    elements: &[Ext<Frac>],
+) -> Result<(), Stop> {
+    for (i, e) in elements.iter().enumerate() {
+        if i > 0 {
+            out.push(b' ')?;
+        }
+        put_element(alloc, out, *e)?;
+    }
+    Ok(())
+}
+
+// Appends the answer to a line that is about a field.
+fn answer_over<F: Field<Elem = Ext<Frac>> + Drop>(
+    alloc: Global,
+    group: &[u8],
+    command: &[u8],
+    over: &Over<F>,
+    words: &mut Words,
+    out: &mut Vec<u8>,
+) -> Result<(), Stop>
+    requires over { IsOver (F.is_ring over.now.field) (F.meaning over.now.field) over.now.algebra over.now.n over.now.order }
+{
+    match (group, command) {
+        (b"jet", _) => jets::calculate(alloc, command, over, words, out),
+        (b"change", _) => changes::calculate(alloc, command, over, words, out),
+        (b"row", _) => rows::calculate(alloc, command, over, words, out),
+        (b"form", _) => forms::calculate(alloc, command, over, words, out),
+        (b"element", b"inverse") => {
+            let a = over.element(words)?;
+            match over.field.inv(a)? {
+                Some(x) => Ok(put_element(alloc, out, x)?),
+                None => Err(Stop::Nothing),
+            }
+        }
+        _ => Err(Stop::Words),
+    }
+}
+
+// Appends the product of two elements of an algebra, which may be no field.
+fn put_product(
+    alloc: Global,
+    algebra: Algebra,
+    words: &mut Words,
+    out: &mut Vec<u8>,
+) -> Result<(), Stop>
+    requires { IsAlgebra algebra }
+{
+    let ring = AlgebraRing { algebra };
+    let a = read_element(algebra, words.next()).ok_or(Stop::Words)?;
+    let b = read_element(algebra, words.next()).ok_or(Stop::Words)?;
+    Ok(put_element(alloc, out, ring.mul(a, b)?)?)
+}
+
+// Appends the conjugate of an element of a quadratic algebra.
+fn put_conjugate(
+    alloc: Global,
+    algebra: Algebra,
+    words: &mut Words,
+    out: &mut Vec<u8>,
+) -> Result<(), Stop>
+    requires { IsAlgebra algebra }
+{
+    let Algebra::Quadratic { m1, m0 } = algebra else {
+        return Err(Stop::Words);
+    };
+    let ring = ExtRing::quadratic(Rationals, m1, m0);
+    let a = read_element(algebra, words.next()).ok_or(Stop::Words)?;
+    Ok(put_element(alloc, out, ring.conjugate(a)?)?)
+}
+
+// Appends the components of the product of two elements of the ring over a quadratic algebra with a root of `t^3 - 3`, which are read by theirs.
+fn put_tower(
+    alloc: Global,
+    algebra: Algebra,
+    words: &mut Words,
+    out: &mut Vec<u8>,
+) -> Result<(), Stop>
+    requires { IsAlgebra algebra }
+{
+    let base = AlgebraRing { algebra };
+    let (zero, one) = (base.zero(), base.one());
+    let minus_three = base.neg(base.add(one, base.add(one, one)?)?);
+    let ring = ExtRing::cubic(base, zero, zero, minus_three);
+    let mut factors = [ring.zero(); 2];
+    for factor in &mut factors {
+        *factor = Ext {
+            c0: read_element(algebra, words.next()).ok_or(Stop::Words)?,
+            c1: read_element(algebra, words.next()).ok_or(Stop::Words)?,
+            c2: read_element(algebra, words.next()).ok_or(Stop::Words)?,
+        };
+    }
+    let Ext { c0, c1, c2 } = ring.mul(factors[0], factors[1])?;
+    put_elements(alloc, out, &[c0, c1, c2])
+}
+
+// The field of a quadratic or cubic algebra.
+fn field_of(algebra: Algebra) -> Result<ExtField, Stop>
+    requires { IsAlgebra algebra }
+    ensures field { IfOk result (λ f. ⟦<ExtField as Ring>⟧.is_ring f) }
+    ensures elements { IfOk result (λ f. (e : ExtOf FracOf) → IsElement algebra e → (⟦<ExtField as Ring>⟧.meaning f).is_elem e) }
+{
+    let ring = match algebra {
+        Algebra::Rational => return Err(Stop::Words),
+        Algebra::Quadratic { m1, m0 } => ExtRing::quadratic(Rationals, m1, m0),
+        Algebra::Cubic { m2, m1, m0 } => ExtRing::cubic(Rationals, m2, m1, m0),
+    };
+    match ExtField::new(ring) {
+        Ok(field) => Ok(field),
+        Err(ExtError::Reducible { root }) => Err(Stop::Reducible { root }),
+        Err(ExtError::Range(_)) => Err(Stop::Range),
+    }
+}
+
+/// Appends the answer to a line that is about an algebra.
+pub(crate) fn calculate(
+    alloc: Global,
+    group: &[u8],
+    command: &[u8],
+    words: &mut Words,
+    out: &mut Vec<u8>,
+) -> Result<(), Stop> {
+    let algebra = read_algebra(words.next()).ok_or(Stop::Words)?;
+    if group == b"text".as_slice() {
+        return texts::calculate(alloc, command, algebra, words, out);
+    }
+    match command {
+        b"product" => return put_product(alloc, algebra, words, out),
+        b"conjugate" => return put_conjugate(alloc, algebra, words, out),
+        b"tower" => return put_tower(alloc, algebra, words, out),
+        _ => {}
+    }
+    let (n, order) = (words.small()?, words.small()?);
+    if n > 8 || order > 17 {
+        return Err(Stop::Words);
+    }
+    if algebra == Algebra::Rational {
+        let field = RationalAlgebra;
+        let over = Over {
+            field,
+            algebra,
+            n,
+            order,
+        };
+        return answer_over(alloc, group, command, &over, words, out);
+    }
+    let field = field_of(algebra)?;
+    let over = Over {
+        field,
+        algebra,
+        n,
+        order,
+    };
+    answer_over(alloc, group, command, &over, words, out)
+}
