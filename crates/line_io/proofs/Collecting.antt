@@ -322,6 +322,16 @@ pub unread : (before mid : Lines) (chunk : ChunkSoFar) (old new : Option (List �
     → before.faulted ≡ false → before.out_of_memory ≡ false → before.taken ≤ 268435456 → IsChunkDecided before → (new ≡ old) × (later ≡ faults)
 unread before mid chunk old new faults later i sound in_memory small d = unread_of before mid old new faults later i.more i.reads sound in_memory small d
 
+still_of : (before mid : Lines) (old new : Option (List ℕ)) (faults later : ℕ) (more : List ℕ) → mid.taken ≡ before.taken + length more → NothingRead before mid old new faults later more ⊎ SomeRead before more
+    → before.faulted ≡ false → before.out_of_memory ≡ false → before.taken ≤ 268435456 → IsChunkDecided before → mid.taken ≡ before.taken
+still_of before mid old new faults later more counted (inl r) sound in_memory small d = let none : length more ≡ 0 = ap (λ (x : List ℕ). length x) r.none in omega (arith, counted, none)
+still_of before mid old new faults later more counted (inr r) sound in_memory small d = undecided before r.going r.held sound in_memory small d
+
+-- where the bytes held decide, the count stays
+pub still : (before mid : Lines) (chunk : ChunkSoFar) (old new : Option (List ℕ)) (faults later taken : ℕ) → Collects before mid chunk old new faults later
+    → before.faulted ≡ false → before.out_of_memory ≡ false → before.taken ≤ 268435456 → taken ≡ mid.taken → IsChunkDecided before → taken ≡ before.taken
+still before mid chunk old new faults later taken i sound in_memory small same d = same ∙ still_of before mid old new faults later i.more i.counted i.reads sound in_memory small d
+
 -- ---- where each byte taken went with an earlier chunk
 
 pub line_is_new : {A : Type 0} (before mid after : Lines) (chunk held : ChunkSoFar) (old new : Option (List ℕ)) (faults later : ℕ) → Collects before mid chunk old new faults later → Found mid after chunk held → after.taken ≡ mid.taken

@@ -2,7 +2,7 @@
 use Rattle.line_io.proofs.Known.{Consumes-none, Consumes-then}
 use Rattle.line_io.specs.LineSoFar.{LineSoFar, IsUnbroken, IsLineOf, Pushes, counted_length}
 use Rattle.line_io.specs.Lines.{line_of, pieces_of, without_last}
-use Rattle.line_io.specs.Reading.{IsHandedOut, HandsOut, HasNoLine, IsPiece, PassesLimit, Takes, is_handed_out}
+use Rattle.line_io.specs.Reading.{AreNeeded, IsDecided, IsHandedOut, HandsOut, HasNoLine, IsPiece, PassesLimit, Takes, is_handed_out}
 use Rattle.line_io.specs.declared.next.Next.TheVariants as nexts
 use Rattle.line_io.specs.declared.next.Next.{Next}
 use Rattle.line_io.specs.declared.lines.Lines.{Lines}
@@ -139,6 +139,7 @@ pub record Gathers (before after : Lines) (old new : Option (List ℕ)) (faults 
   pub rises : faults ≤ later
   pub first : ((more ≡ []) × (bytes ≡ []) × (after.ended ≡ before.ended) × (new ≡ old) × (later ≡ faults)) ⊎ ((before.ended ≡ false) × IsUnbroken before.buffer)
   pub ended : after.ended ≡ true → ((before.ended ≡ true) × (new ≡ old)) ⊎ IsAtEnd new
+  pub needed : AreNeeded before.buffer more
 
 -- ---- a part goes into the line
 
@@ -244,6 +245,7 @@ hands_out_ended before mid after old new faults later s next i f number same out
       line = subst P (sym is_line) (out bytes (line_more i.bytes f.0 mid.line s i.line f.3));
       counted = number ∙ i.counted;
       no_more = λ e. let h = nothing_read before mid old new faults later i.bytes i.more i.first e in (h.0, same ∙ h.1);
+      needed = i.needed;
     }
 
 pub hands_out_rest : (before mid after : Lines) (old new : Option (List ℕ)) (faults later : ℕ) (s : LineSoFar) (next : Next) → Gathers before mid old new faults later
@@ -265,6 +267,7 @@ hands_out_rest before mid after old new faults later s next i f number ended som
       line = subst P (sym is_line) (out bytes line);
       counted = number ∙ i.counted;
       no_more = λ e. ((nothing_read before mid old new faults later i.bytes i.more i.first e).0, ended);
+      needed = i.needed;
     }
 
 on_off : {A : Type 0} (next other : Next) → next ≡ other → is_handed_out next ≡ true → is_handed_out other ≡ false → A
@@ -309,6 +312,7 @@ gathers_none before after old f e same count end small sound =
       rises = omega arith;
       first = inl (refl, refl, end, refl, refl);
       ended = λ is. inl (sym end ∙ is, refl);
+      needed = record { earlier = []; last = []; parts = refl; few = omega arith; unbroken = inl refl };
     }
 
 pub gathers_small : (before mid : Lines) (old new : Option (List ℕ)) (faults later : ℕ) → Gathers before mid old new faults later → length before.buffer ≤ 65536 → mid.line.total + length mid.buffer < 18446744073709551616
@@ -369,9 +373,10 @@ pub gathers_more : (before mid gathered after : Lines) (old new next : Option (L
     → (gathered.taken ≡ mid.taken) × (gathered.ended ≡ mid.ended) × (gathered.faulted ≡ mid.faulted)
     → IsUnbroken mid.buffer × (gathered.buffer ≡ []) × Pushes mid.line gathered.line mid.buffer → gathered.ended ≡ false
     → Consumes new next after.buffer → after.taken ≡ gathered.taken + length after.buffer → after.line ≡ gathered.line → after.faulted ≡ gathered.faulted
-    → (after.ended ≡ true → IsAtEnd next) → after.taken ≤ 16777216 → later ≤ last → Gathers before after old next faults last
-gathers_more before mid gathered after old new next faults later last i same all going read counted line sound ended small rises =
+    → (after.ended ≡ true → IsAtEnd next) → after.taken ≤ 16777216 → length after.buffer ≤ 65536 → later ≤ last → Gathers before after old next faults last
+gathers_more before mid gathered after old new next faults later last i same all going read counted line sound ended small few rises =
     let P : LineSoFar → Type 0 = λ s. IsLineOf (i.bytes ++ mid.buffer) s in
+    let Q : List ℕ → Type 0 = λ x. IsUnbroken x in
     record {
       bytes = i.bytes ++ mid.buffer;
       more = i.more ++ after.buffer;
@@ -385,7 +390,41 @@ gathers_more before mid gathered after old new next faults later last i same all
       rises = omega (arith, i.rises, rises);
       first = inr (first_read before mid old new faults later i.bytes i.more i.parts (sym same.1 ∙ going) all.0 i.first);
       ended = λ is. inr (ended is);
+      needed = record {
+        earlier = i.more;
+        last = after.buffer;
+        parts = refl;
+        few = few;
+        unbroken = inr (subst Q (sym i.parts) (unbroken-append i.bytes mid.buffer i.unbroken all.0));
+      };
     }
+
+-- ---- where the bytes held decide
+
+both_of : {A : Type 0} (t : Bool) → t ≡ true → t ≡ false → A
+both_of true e f = absurd cc
+both_of false e f = absurd cc
+
+-- nothing decides where the input goes on, no line is ended by the bytes held, and neither a fault nor the limit was met
+pub undecided : {A : Type 0} (before : Lines) → (before.ended ≡ false) × IsUnbroken before.buffer → before.faulted ≡ false → before.taken ≤ 16777216 → IsDecided before → A
+undecided before going sound small (inl (inl e)) = both_of before.ended e going.0
+undecided before going sound small (inl (inr broken)) = absurd (broken going.1)
+undecided before going sound small (inr (inl e)) = both_of before.faulted e sound
+undecided before going sound small (inr (inr past)) = absurd (omega (arith, past, small))
+
+still_of : (before mid : Lines) (old new : Option (List ℕ)) (faults later : ℕ) (bytes more : List ℕ) → mid.taken ≡ before.taken + length more
+    → ((more ≡ []) × (bytes ≡ []) × (mid.ended ≡ before.ended) × (new ≡ old) × (later ≡ faults)) ⊎ ((before.ended ≡ false) × IsUnbroken before.buffer)
+    → before.faulted ≡ false → before.taken ≤ 16777216 → IsDecided before → mid.taken ≡ before.taken
+still_of before mid old new faults later bytes more counted (inl p) sound small d = let none : length more ≡ 0 = ap (λ (x : List ℕ). length x) p.0 in omega (arith, counted, none)
+still_of before mid old new faults later bytes more counted (inr p) sound small d = undecided before p sound small d
+
+-- where the bytes held decide, the count stays
+pub still : (before mid : Lines) (old new : Option (List ℕ)) (faults later taken : ℕ) → Gathers before mid old new faults later → before.faulted ≡ false → before.taken ≤ 16777216 → taken ≡ mid.taken → IsDecided before → taken ≡ before.taken
+still before mid old new faults later taken i sound small same d = same ∙ still_of before mid old new faults later i.bytes i.more i.counted i.first sound small d
+
+-- a call that reads on was not decided before
+pub went_on : {A : Type 0} (before mid : Lines) (old new : Option (List ℕ)) (faults later : ℕ) → Gathers before mid old new faults later → IsUnbroken mid.buffer → mid.ended ≡ false → before.faulted ≡ false → before.taken ≤ 16777216 → IsDecided before → A
+went_on before mid old new faults later i unbroken going sound small d = undecided before (first_read before mid old new faults later i.bytes i.more i.parts going unbroken i.first) sound small d
 
 -- ---- the pieces of an input
 

@@ -49,6 +49,14 @@ abbrev pub IsPiece : List ℕ → Lines → Type 0
 IsPiece piece after =
     (bytes : List ℕ) × IsUnbroken bytes × ((piece ≡ bytes ++ 10 ∷ []) ⊎ ((piece ≡ bytes) × (0 < length bytes) × (after.ended ≡ true) × (after.buffer ≡ [])))
 
+-- these bytes are read in a call beside those held: the last read gives at most 65,536 of them, and no newline is among those held and read before it
+pub record AreNeeded (held more : List ℕ) : Type 0 where
+  pub earlier : List ℕ
+  pub last : List ℕ
+  pub parts : more ≡ earlier ++ last
+  pub few : length last ≤ 65536
+  pub unbroken : (more ≡ []) ⊎ IsUnbroken (held ++ earlier)
+
 -- one piece goes from the bytes held and read, and its line is handed out; at the end of the input nothing more is read
 pub record HandsOut (before after : Lines) (old new : Option (List ℕ)) (next : Next) : Type 0 where
   pub more : List ℕ
@@ -59,6 +67,7 @@ pub record HandsOut (before after : Lines) (old new : Option (List ℕ)) (next :
   pub line : IsHandedOut (line_of piece) after.line.kept next
   pub counted : after.taken ≡ before.taken + length more
   pub no_more : before.ended ≡ true → (more ≡ []) × (after.ended ≡ true)
+  pub needed : AreNeeded before.buffer more
 
 -- no line was decided by the bytes held and read, and the end of the input was not come to before
 pub record HasNoLine (before : Lines) (old new : Option (List ℕ)) : Type 0 where

@@ -56,8 +56,8 @@ impl Lines {
     /// chunk that an earlier call answered.
     ///
     /// Errors: `Chunk::ReadFault` only where a read failed, in this call or an earlier one, and
-    /// `Chunk::InputLimit` exactly where more than 268,435,456 bytes were taken; then no later call
-    /// reads. `NoMemory` where memory ran out, in this call or an earlier one: the bytes of the chunk
+    /// `Chunk::InputLimit` exactly where more than 268,435,456 bytes were taken; then each later call
+    /// answers the same without a read. `NoMemory` where memory ran out, in this call or an earlier one: the bytes of the chunk
     /// are gone, and each later call answers the same without a read.
     pub fn next_chunk<S: Source>(
         &mut self,
@@ -77,7 +77,9 @@ impl Lines {
         ensures ended { has_ended self.new ≡ true → ((has_ended self.old ≡ true) × (S.left source.new ≡ S.left source.old)) ⊎ IsAtEnd (S.left source.new) }
         ensures unread { IsChunkDecided self.old → (S.left source.new ≡ S.left source.old) × (S.faults source.new ≡ S.faults source.old) }
         ensures sound { has_failed self.new ≡ true → (has_failed self.old ≡ true) ⊎ (result ≡ Ok Chunk.ReadFault) }
-        ensures stays { has_failed self.old ≡ true → (has_failed self.new ≡ true) × IfOk result (λ answer. (answer ≡ Chunk.ReadFault) ⊎ (answer ≡ Chunk.InputLimit)) }
+        ensures still { IsChunkDecided self.old → taken_count self.new ≡ taken_count self.old }
+        ensures stays { has_failed self.old ≡ true → (has_failed self.new ≡ true) × (taken_count self.old ≤ CHUNKS_LIMIT → IfOk result (λ answer. answer ≡ Chunk.ReadFault)) }
+        ensures over { CHUNKS_LIMIT < taken_count self.old → IfOk result (λ answer. answer ≡ Chunk.InputLimit) }
         ensures later { S.faults source.old ≤ S.faults source.new }
     {
         if self.out_of_memory {

@@ -75,7 +75,8 @@ impl Lines {
     /// went with a line that an earlier call answered.
     ///
     /// Errors: `Next::ReadFault` only where a read failed, in this call or an earlier one, and
-    /// `Next::InputLimit` exactly where more than 16,777,216 bytes were taken; then no later call reads.
+    /// `Next::InputLimit` exactly where more than 16,777,216 bytes were taken; then each later call answers
+    /// the same without a read.
     pub fn next_line<S: Source>(&mut self, source: &mut S) -> Next
         ensures line { is_handed_out result ≡ true → HandsOut self.old self.new (S.left source.old) (S.left source.new) result }
         ensures end { result ≡ Next.End → EndsAll self.old self.new (S.left source.old) (S.left source.new) }
@@ -87,7 +88,9 @@ impl Lines {
         ensures ended { has_ended self.new ≡ true → ((has_ended self.old ≡ true) × (S.left source.new ≡ S.left source.old)) ⊎ IsAtEnd (S.left source.new) }
         ensures unread { IsDecided self.old → (S.left source.new ≡ S.left source.old) × (S.faults source.new ≡ S.faults source.old) }
         ensures sound { has_failed self.new ≡ true → (has_failed self.old ≡ true) ⊎ (result ≡ Next.ReadFault) }
-        ensures stays { has_failed self.old ≡ true → (has_failed self.new ≡ true) × ((result ≡ Next.ReadFault) ⊎ (result ≡ Next.InputLimit)) }
+        ensures still { IsDecided self.old → taken_count self.new ≡ taken_count self.old }
+        ensures stays { has_failed self.old ≡ true → (has_failed self.new ≡ true) × (taken_count self.old ≤ INPUT_LIMIT → result ≡ Next.ReadFault) }
+        ensures over { INPUT_LIMIT < taken_count self.old → result ≡ Next.InputLimit }
         ensures later { S.faults source.old ≤ S.faults source.new }
     {
         if self.taken > INPUT_LIMIT {

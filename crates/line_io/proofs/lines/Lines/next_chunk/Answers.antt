@@ -45,3 +45,13 @@ pub loop-found-preserved : goal.loop-found-preserved
 loop-found-preserved g c =
     collects_more _ c.loop-found.self c.collect.new.self c.fill.new.self _ _ _ _ _ _ _ _ c.loop-found.invariant c.collect.ensures.same (c.in-Ok.ensures.all (search rules)) c.if-self-3.false
     c.in-Ok-fill.ensures.ok c.in-Ok-fill.ensures.counted c.in-Ok-fill.ensures.sound c.in-Ok-fill.ensures.memory c.in-Ok-fill.ensures.ended (omega (arith, c.if-self-gt-CHUNKS_LIMIT-2.false)) c.fill.new.self.small c.in-Ok-fill.ensures.later
+
+pub returns-in-Err-clause-still : goal.returns-in-Err-clause-still
+returns-in-Err-clause-still g c =
+    let was = was_going _ c.loop-found.self _ _ _ _ _ c.loop-found.invariant (c.in-Ok.ensures.all (search rules)).0 (sym c.collect.ensures.same.1 ∙ c.if-self-3.false) in
+    λ d. undecided c.args.self.now was.0 was.1 c.if-self-2.false c.if-self.false (omega (arith, c.if-self-gt-CHUNKS_LIMIT.false)) d
+
+pub returns-then-self-gt-CHUNKS_LIMIT-2-clause-still : goal.returns-then-self-gt-CHUNKS_LIMIT-2-clause-still
+returns-then-self-gt-CHUNKS_LIMIT-2-clause-still g c =
+    let was = was_going _ c.loop-found.self _ _ _ _ _ c.loop-found.invariant (c.in-Ok.ensures.all (search rules)).0 (sym c.collect.ensures.same.1 ∙ c.if-self-3.false) in
+    λ d. undecided c.args.self.now was.0 was.1 c.if-self-2.false c.if-self.false (omega (arith, c.if-self-gt-CHUNKS_LIMIT.false)) d

@@ -1,4 +1,4 @@
-use Rattle.line_io.proofs.Reading.{gathers_none, gathers_small, gathers_more, hands_out_ended, hands_out_rest, not_after, no_line, passes_limit, takes_more}
+use Rattle.line_io.proofs.Reading.{gathers_none, gathers_small, gathers_more, hands_out_ended, hands_out_rest, not_after, no_line, passes_limit, still, takes_more, went_on}
 use Rattle.line_io.proofs.lines.Lines.next_line.Goals as goal
 use Rattle.std.proofs.Common.{rules, refl, arith, inr, sym, ◌∙◌}
 
@@ -49,7 +49,7 @@ returns-then-self-gt-INPUT_LIMIT-2-clause-taken g c = takes_more _ c.loop-self.s
 pub loop-self-preserved : goal.loop-self-preserved
 loop-self-preserved g c =
     gathers_more _ c.loop-self.self c.gather.new.self _ _ _ _ _ _ _ c.loop-self.invariant c.gather.ensures.same (c.if-gather.ensures.all refl) c.if-self-2.false
-    c.in-Ok.ensures.ok c.in-Ok.ensures.counted c.in-Ok.ensures.line c.in-Ok.ensures.sound c.in-Ok.ensures.ended (omega (arith, c.if-self-gt-INPUT_LIMIT-2.false)) c.in-Ok.ensures.later
+    c.in-Ok.ensures.ok c.in-Ok.ensures.counted c.in-Ok.ensures.line c.in-Ok.ensures.sound c.in-Ok.ensures.ended (omega (arith, c.if-self-gt-INPUT_LIMIT-2.false)) c.fill.new.self.small c.in-Ok.ensures.later
 
 pub returns-then-self-gt-INPUT_LIMIT-2-clause-passed : goal.returns-then-self-gt-INPUT_LIMIT-2-clause-passed
 returns-then-self-gt-INPUT_LIMIT-2-clause-passed g c =
@@ -61,3 +61,17 @@ returns-then-gather-clause-passed g c = λ e. not_after _ c.loop-self.self _ _ _
 
 pub returns-then-self-2-clause-passed : goal.returns-then-self-2-clause-passed
 returns-then-self-2-clause-passed g c = λ e. not_after _ c.loop-self.self _ _ _ _ _ _ _ _ _ c.loop-self.invariant (c.if-gather.ensures.all refl).2 c.finish-then-self-2.ensures.line e refl
+
+pub returns-then-gather-clause-still : goal.returns-then-gather-clause-still
+returns-then-gather-clause-still g c = still _ c.loop-self.self _ _ _ _ _ c.loop-self.invariant c.if-self.false (omega (arith, c.if-self-gt-INPUT_LIMIT.false)) c.gather.ensures.same.0
+
+pub returns-then-self-2-clause-still : goal.returns-then-self-2-clause-still
+returns-then-self-2-clause-still g c = still _ c.loop-self.self _ _ _ _ _ c.loop-self.invariant c.if-self.false (omega (arith, c.if-self-gt-INPUT_LIMIT.false)) c.gather.ensures.same.0
+
+pub returns-in-Err-clause-still : goal.returns-in-Err-clause-still
+returns-in-Err-clause-still g c =
+    λ d. went_on _ c.loop-self.self _ _ _ _ c.loop-self.invariant (c.if-gather.ensures.all refl).0 (sym c.gather.ensures.same.1 ∙ c.if-self-2.false) c.if-self.false (omega (arith, c.if-self-gt-INPUT_LIMIT.false)) d
+
+pub returns-then-self-gt-INPUT_LIMIT-2-clause-still : goal.returns-then-self-gt-INPUT_LIMIT-2-clause-still
+returns-then-self-gt-INPUT_LIMIT-2-clause-still g c =
+    λ d. went_on _ c.loop-self.self _ _ _ _ c.loop-self.invariant (c.if-gather.ensures.all refl).0 (sym c.gather.ensures.same.1 ∙ c.if-self-2.false) c.if-self.false (omega (arith, c.if-self-gt-INPUT_LIMIT.false)) d
