@@ -117,7 +117,6 @@ IsAnswerHigh bytes (answers.Syntax column what) item = ⊥
 IsAnswerHigh bytes (answers.Literal column) item = ⊥
 IsAnswerHigh bytes (answers.NotCritical variable) item = IsRefusalHigh bytes item
 IsAnswerHigh bytes (answers.Range phase) item = ⊥
-IsAnswerHigh bytes (answers.Field algebra) item = ⊥
 IsAnswerHigh bytes answers.Unbuilt item = ⊥
 IsAnswerHigh bytes (answers.Named r) item = IsNamedHigh bytes r item
 IsAnswerHigh bytes (answers.Outside r) item = IsOutsideHigh bytes r item

@@ -100,7 +100,6 @@ fn answer_verdict(alloc: Global, line: &[u8], answer: &Answer) -> Result<Verdict
         Answer::Literal { column } => literal_verdict(alloc, line, *column),
         Answer::NotCritical { variable } => not_critical_verdict(alloc, line, *variable),
         Answer::Range { .. } => Ok(Verdict::Unchecked),
-        Answer::Field { .. } => Ok(Verdict::Unchecked),
         Answer::Unbuilt => Ok(Verdict::Unchecked),
         Answer::Named(named) => named_verdict(alloc, line, named),
         Answer::Outside(outside) => outside_verdict(alloc, line, outside),
@@ -123,7 +122,7 @@ fn long_verdict(size: u64) -> Verdict
 /// and functional; an unresolved report germ, shape, inverse, carry and mather; a refusal has one.
 /// `Valid` says that all are true, `Invalid` names the first that is false, and `Range` one whose
 /// calculation forms a number of height at least 2^120 where those before it are true. `Unchecked`
-/// says that the report has no items: its answer is `range`, `field` or `unbuilt`.
+/// says that the report has no items: its answer is `range` or `unbuilt`.
 pub fn check(alloc: Global, r: &Report) -> Result<Verdict, NoMemory>
     requires well_formed { IsWellFormed r.now }
     ensures verdict { IfOk result (IsVerdictOn IsItemHigh r.now) }

@@ -1,24 +1,25 @@
 -- One reading of a polynomial: its first term may be constant, and the others are not.
-use Rattle.std.proofs.Common.{◌≡◌, ℕ, ◌+◌, ◌<◌, ◌≤◌, ◌^◌, Bool, true, false, cond, eqb, ◌&&◌, pos, List, [], ◌∷◌, ◌++◌, length, refl, sym, ap, ◌∙◌, subst, arith, inl, inr}
-use Rattle.std.specs.Prelude.{codes, decimal, map}
-use Rattle.std.specs.List.{AllByRecursion, flat_map, list_all}
+use Rattle.std.proofs.Common.{◌≡◌, ℕ, ◌+◌, ◌<◌, ◌≤◌, ◌^◌, Bool, true, false, cond, eqb, ◌&&◌, List, [], ◌∷◌, ◌++◌, length, refl, sym, ap, ◌∙◌, subst, append_assoc, arith, inl, inr}
+use Rattle.std.specs.Prelude.{decimal, map, not}
+use Rattle.std.specs.List.{AllByRecursion, flat_map, list_all, zip}
 use Rattle.std.proofs.lemmas.Bool.{eqb-true}
-use Rattle.std.proofs.lemmas.Bool.Decides.{Decides-int_eq}
-use Rattle.std.proofs.lemmas.List.{append-nil}
+use Rattle.std.proofs.lemmas.List.{append-nil, append_cancel_right}
 use Rattle.std.proofs.lemmas.List.Concat.{flat_map-append}
 use Rattle.ring_law.specs.declared.fraction.Frac.{Frac}
-use Rattle.cert_law.specs.Fields.{Element, zero_fraction}
+use Rattle.cert_law.specs.Fields.{Element}
 use Rattle.mono_exp.specs.declared.exponent.Exp.{Exp}
 use Rattle.cert_law.specs.Fields.{Term}
-use Rattle.poly_text.specs.Numbers.{is_zero_fraction, without_plus, components_text, scaled_text, signed_text}
+use Rattle.poly_text.specs.Numbers.{Piece, is_zero_fraction, piece_text, without_plus, without_zeros, components, components_text, letters, numbers, scaled_text, signed_text}
 use Rattle.poly_text.specs.Polynomials.{is_one, new_names, term_in}
 use Rattle.cert_law.specs.Unique.{Starts}
-use Rattle.cert_law.specs.Fields.{IsBody, IsInside, EndsSum, Piece, IsPiece, piece_text, IsSmallElement, IsComponent, IsMonomial, IsTerm, IsHigher, IsPolynomial}
-use Rattle.cert_law.proofs.Elements.{pieces_of, pieces_are, pieces_tell, components_are, nonzero}
+use Rattle.cert_law.specs.Fields.{IsBody, IsInside, EndsSum, IsPiece, IsSmallElement, IsMonomial, IsTerm, IsHigher, IsPolynomial}
+use Rattle.cert_law.proofs.Elements.{components_are, element_pieces, element_tells}
 use Rattle.cert_law.proofs.Monomials.{starred, starred_is, factors_from, present, raised, monomial_one, exponents_is}
 use Rattle.cert_law.proofs.Lumps.{Lump, Simple, Bracketed, lump_text, IsLump, lump_sum_one}
 use Rattle.cert_law.proofs.Terms.{lump_by, scaled_is}
-use Rattle.cert_law.proofs.Numbers.{digits, IsDigit, fraction_is}
+use Rattle.cert_law.proofs.Cut.{cut}
+use Rattle.cert_law.proofs.Numbers.{digits, all_append, IsDigit}
+use Rattle.cert_law.proofs.Valid.{all_from}
 
 -- ---- the factors of a monomial that is not 1 are a body
 
@@ -79,76 +80,78 @@ factors_is (star ∷ c ∷ r) f = (r, cc (f.0, f.1))
 
 -- ---- the coefficient and the factors of a lump
 
-abbrev pub Read : Type 0
-Read = Element × List ℕ
+-- a body without the letter u
+abbrev pub IsPlain : List ℕ → Type 0
+IsPlain body = AllByRecursion (λ b. b ≡ 117 → ⊥) body
 
-abbrev pub as0 : Frac → Element
-as0 q = record { c0 = q; c1 = zero_fraction; c2 = zero_fraction }
+plain_by : (b : ℕ) → not (eqb b 117) ≡ true → b ≡ 117 → ⊥
+plain_by b e is = let yes : eqb b 117 ≡ true = ap (λ n. eqb n 117) is in absurd (cc (e, yes))
 
-abbrev pub as1 : Frac → Element
-as1 q = record { c0 = zero_fraction; c1 = q; c2 = zero_fraction }
+pub letters_plain : AllByRecursion IsPlain letters
+letters_plain = all_from (λ body. list_all (λ b. not (eqb b 117)) body) IsPlain (λ body e. all_from (λ b. not (eqb b 117)) (λ b. b ≡ 117 → ⊥) plain_by body e) letters refl
 
-abbrev pub as2 : Frac → Element
-as2 q = record { c0 = zero_fraction; c1 = zero_fraction; c2 = q }
+plain_step : (t : Bool) (q : Frac) (body : List ℕ) (ps : List Piece) → IsPlain body → AllByRecursion (λ p. IsPlain p.1) ps → AllByRecursion (λ p. IsPlain p.1) (cond (not t) ((q, body) ∷ ps) ps)
+plain_step true q body ps is all = all
+plain_step false q body ps is all = (is, all)
 
-abbrev pub behind : List ℕ → List ℕ
-behind [] = []
-behind (b ∷ bs) = bs
+plain_pieces : (qs : List Frac) (bodies : List (List ℕ)) → AllByRecursion IsPlain bodies → AllByRecursion (λ p. IsPlain p.1) (without_zeros (zip qs bodies))
+plain_pieces [] bodies all = tt
+plain_pieces (q ∷ qs) [] all = tt
+plain_pieces (q ∷ qs) (body ∷ bodies) all = plain_step (is_zero_fraction q) q body (without_zeros (zip qs bodies)) all.0 (plain_pieces qs bodies all.1)
 
-abbrev pub read_t : Frac → List ℕ → Read
-read_t q [] = (as1 q, [])
-read_t q (s ∷ r) = cond (eqb s 94) (as2 q, behind r) (as1 q, s ∷ r)
+-- no piece of an element has the letter u
+pub plain_element : (e : Element) → AllByRecursion (λ p. IsPlain p.1) (without_zeros (components e))
+plain_element e = plain_pieces (numbers e) letters letters_plain
 
-abbrev pub decode : Lump → Read
-decode (Bracketed e b) = (e, b)
-decode (Simple q []) = (as0 q, [])
-decode (Simple q (s ∷ [])) = (as0 q, s ∷ [])
-decode (Simple q (s ∷ c ∷ r)) = cond (eqb c 116) (read_t q r) (as0 q, s ∷ c ∷ r)
+-- letters and factors are told from the letters with the factors behind them
+body_tells : (b c f g : List ℕ) → IsPlain b → IsPlain c → IsFactors f → IsFactors g → b ++ f ≡ c ++ g → (b ≡ c) × (f ≡ g)
+body_tells b c f g pb pc ff fg e =
+    let r = factors_is f ff in
+    let s = factors_is g fg in
+    let plain : IsPlain (42 ∷ []) = (λ is. omega (arith, is), tt) in
+    let whole : (b ++ 42 ∷ []) ++ 117 ∷ r.0 ≡ (c ++ 42 ∷ []) ++ 117 ∷ s.0 =
+    append_assoc b (42 ∷ []) (117 ∷ r.0) ∙ ap (λ (z : List ℕ). b ++ z) (sym r.1) ∙ e ∙ ap (λ (z : List ℕ). c ++ z) s.1 ∙ sym (append_assoc c (42 ∷ []) (117 ∷ s.0)) in
+    let h = cut (λ x. x ≡ 117 → ⊥) (λ x. x ≡ 117) (λ x i o. i o) (b ++ 42 ∷ []) (c ++ 42 ∷ []) (117 ∷ r.0) (117 ∷ s.0) (all_append (λ x. x ≡ 117 → ⊥) b (42 ∷ []) pb plain) (all_append (λ x. x ≡ 117 → ⊥) c (42 ∷ []) pc plain) refl refl whole in
+    (append_cancel_right b c (42 ∷ []) h.0, r.1 ∙ ap (λ (z : List ℕ). 42 ∷ z) h.1 ∙ sym s.1)
 
-abbrev with_tests : Bool → Bool → Bool → Element → List Piece
-with_tests z0 z1 z2 e = cond z0 [] ((e.c0, []) ∷ []) ++ cond z1 [] ((e.c1, codes "*t") ∷ []) ++ cond z2 [] ((e.c2, codes "*t^2") ∷ [])
+piece_is : (p q : Piece) → p.0 ≡ q.0 → p.1 ≡ q.1 → p ≡ q
+piece_is p q a b = λ i. (a i, b i)
 
-abbrev paired : Element → List ℕ → Read
-paired e b = (e, b)
+bracketed_tells : (e f : Element) (b c : List ℕ) → Bracketed e b ≡ Bracketed f c → (e ≡ f) × (b ≡ c)
+bracketed_tells e f b c h = (cc, cc)
 
-read_is : (e f : Element) (b : List ℕ) → e.c0 ≡ f.c0 → e.c1 ≡ f.c1 → e.c2 ≡ f.c2 → paired e b ≡ paired f b
-read_is e f b p q r = λ i. (record { c0 = p i; c1 = q i; c2 = r i }, b)
+simple_tells : (q r : Frac) (b c : List ℕ) → Simple q b ≡ Simple r c → (q ≡ r) × (b ≡ c)
+simple_tells q r b c h = (cc, cc)
 
-decodes : (z0 z1 z2 : Bool) (e : Element) (r : List ℕ) → (z0 ≡ true → zero_fraction ≡ e.c0) → (z1 ≡ true → zero_fraction ≡ e.c1) → (z2 ≡ true → zero_fraction ≡ e.c2)
-    → decode (lump_by (with_tests z0 z1 z2 e) e (42 ∷ 117 ∷ r)) ≡ paired e (42 ∷ 117 ∷ r)
-decodes true true true e r p q s = refl
-decodes false true true e r p q s = read_is (as0 e.c0) e (42 ∷ 117 ∷ r) refl (q refl) (s refl)
-decodes true false true e r p q s = read_is (as1 e.c1) e (42 ∷ 117 ∷ r) (p refl) refl (s refl)
-decodes true true false e r p q s = read_is (as2 e.c2) e (42 ∷ 117 ∷ r) (p refl) (q refl) refl
-decodes false false true e r p q s = refl
-decodes false true false e r p q s = refl
-decodes true false false e r p q s = refl
-decodes false false false e r p q s = refl
-
-zero_is : (q : Frac) → IsComponent q → is_zero_fraction q ≡ true → zero_fraction ≡ q
-zero_is q is z = let n = (Decides-int_eq q.num (pos 0)).0 z in fraction_is zero_fraction q (sym n) (sym (is.zero_form n))
-
-decoded : (e : Element) (b : List ℕ) → IsSmallElement e → IsFactors b → decode (lump_by (pieces_of e) e b) ≡ paired e b
-decoded e b is f =
-    let r = factors_is b f in
-    let made = decodes (is_zero_fraction e.c0) (is_zero_fraction e.c1) (is_zero_fraction e.c2) e r.0 (zero_is e.c0 is.c0) (zero_is e.c1 is.c1) (zero_is e.c2 is.c2) in
-    subst (λ (z : List ℕ). decode (lump_by (pieces_of e) e z) ≡ paired e z) (sym r.1) made
+lumps_same : (ps qs : List Piece) (e f : Element) (b c : List ℕ) → (ps ≡ qs → e ≡ f) → AllByRecursion (λ p. IsPlain p.1) ps → AllByRecursion (λ p. IsPlain p.1) qs → IsFactors b → IsFactors c
+    → lump_by ps e b ≡ lump_by qs f c → (e ≡ f) × (b ≡ c)
+lumps_same [] [] e f b c tell pp pq fb fc h = bracketed_tells e f b c h
+lumps_same [] (q ∷ []) e f b c tell pp pq fb fc h = absurd cc
+lumps_same [] (q ∷ r ∷ qs) e f b c tell pp pq fb fc h = bracketed_tells e f b c h
+lumps_same (p ∷ []) [] e f b c tell pp pq fb fc h = absurd cc
+lumps_same (p ∷ []) (q ∷ []) e f b c tell pp pq fb fc h =
+    let same = simple_tells p.0 q.0 (p.1 ++ b) (q.1 ++ c) h in
+    let k = body_tells p.1 q.1 b c pp.0 pq.0 fb fc same.1 in
+    (tell (ap (λ (z : Piece). z ∷ []) (piece_is p q same.0 k.0)), k.1)
+lumps_same (p ∷ []) (q ∷ r ∷ qs) e f b c tell pp pq fb fc h = absurd cc
+lumps_same (p ∷ o ∷ ps) [] e f b c tell pp pq fb fc h = bracketed_tells e f b c h
+lumps_same (p ∷ o ∷ ps) (q ∷ []) e f b c tell pp pq fb fc h = absurd cc
+lumps_same (p ∷ o ∷ ps) (q ∷ r ∷ qs) e f b c tell pp pq fb fc h = bracketed_tells e f b c h
 
 -- ---- terms with factors
 
 abbrev pub lump_of : Term → Lump
-lump_of t = lump_by (pieces_of t.1) t.1 (starred t.0)
+lump_of t = lump_by (without_zeros (components t.1)) t.1 (starred t.0)
 
 term_is : (t u : Term) → t.0 ≡ u.0 → t.1 ≡ u.1 → t ≡ u
 term_is t u a b = λ i. (a i, b i)
 
 pub lump_tells : (t u : Term) → IsHigher t → IsHigher u → lump_of t ≡ lump_of u → t ≡ u
 lump_tells t u ot ou e =
-    let a = decoded t.1 (starred t.0) ot.term.coefficient (starred_front t.0 ot.term.monomial ot.higher) in
-    let b = decoded u.1 (starred u.0) ou.term.coefficient (starred_front u.0 ou.term.monomial ou.higher) in
-    let same : paired t.1 (starred t.0) ≡ paired u.1 (starred u.0) = sym a ∙ ap decode e ∙ b in
-    let m = monomial_one t.0 u.0 [] [] ot.term.monomial ou.term.monomial tt tt (ap (λ (z : Read). z.1 ++ []) same) in
-    term_is t u m.0 (ap (λ (z : Read). z.0) same)
+    let same = lumps_same (without_zeros (components t.1)) (without_zeros (components u.1)) t.1 u.1 (starred t.0) (starred u.0) (element_tells t.1 u.1 ot.term.coefficient ou.term.coefficient) (plain_element t.1) (plain_element u.1)
+    (starred_front t.0 ot.term.monomial ot.higher) (starred_front u.0 ou.term.monomial ou.higher) e in
+    let m = monomial_one t.0 u.0 [] [] ot.term.monomial ou.term.monomial tt tt (ap (λ (z : List ℕ). z ++ []) same.1) in
+    term_is t u m.0 same.0
 
 cons_is : {A : Type 0} (x y : A) (xs ys : List A) → x ∷ xs ≡ y ∷ ys → (x ≡ y) × (xs ≡ ys)
 cons_is x y xs ys e = (cc, cc)
@@ -163,21 +166,19 @@ higher_tell (t ∷ ts) (u ∷ us) ot ou e =
     let others = higher_tell ts us ot.1 ou.1 h.1 in
     cc (first, others)
 
-lump_by_is : (z0 z1 z2 : Bool) (e : Element) (b : List ℕ) → (z0 ≡ true → z1 ≡ true → z2 ≡ true → ⊥) → (z0 ≡ false → e.c0.num ≡ pos 0 → ⊥) → (z1 ≡ false → e.c1.num ≡ pos 0 → ⊥) → (z2 ≡ false → e.c2.num ≡ pos 0 → ⊥) → IsSmallElement e → IsFactors b
-    → IsLump (lump_by (with_tests z0 z1 z2 e) e b)
-lump_by_is true true true e b some n0 n1 n2 is f = absurd (some refl refl refl)
-lump_by_is false true true e b some n0 n1 n2 is f = record { small = is.c0.small; nonzero = n0 refl; factors = factors_body b f }
-lump_by_is true false true e b some n0 n1 n2 is f = record { small = is.c1.small; nonzero = n1 refl; factors = (refl, omega arith, factors_inside b f) }
-lump_by_is true true false e b some n0 n1 n2 is f = record { small = is.c2.small; nonzero = n2 refl; factors = (refl, omega arith, (inl (omega arith), (inl (omega arith), factors_inside b f))) }
-lump_by_is false false true e b some n0 n1 n2 is f = record { element = is; factors = factors_body b f }
-lump_by_is false true false e b some n0 n1 n2 is f = record { element = is; factors = factors_body b f }
-lump_by_is true false false e b some n0 n1 n2 is f = record { element = is; factors = factors_body b f }
-lump_by_is false false false e b some n0 n1 n2 is f = record { element = is; factors = factors_body b f }
+pub longer_body : (body b : List ℕ) → IsBody body → IsFactors b → IsBody (body ++ b)
+longer_body [] b is f = factors_body b f
+longer_body (star ∷ []) b is f = absurd is
+longer_body (star ∷ c ∷ r) b is f = (is.0, is.1, inside_append r b is.2 (factors_inside b f))
+
+lump_by_is : (ps : List Piece) (e : Element) (b : List ℕ) → AllByRecursion IsPiece ps → IsSmallElement e → IsFactors b → IsLump (lump_by ps e b)
+lump_by_is [] e b pieces is f = record { element = is; factors = factors_body b f }
+lump_by_is (p ∷ []) e b pieces is f = record { small = pieces.0.small; nonzero = pieces.0.nonzero; factors = longer_body p.1 b pieces.0.body f }
+lump_by_is (p ∷ q ∷ ps) e b pieces is f = record { element = is; factors = factors_body b f }
 
 pub higher_lump : (t : Term) → IsHigher t → IsLump (lump_of t)
 higher_lump t is =
-    let e = t.1 in
-    lump_by_is (is_zero_fraction e.c0) (is_zero_fraction e.c1) (is_zero_fraction e.c2) e (starred t.0) is.term.nonzero (nonzero e.c0) (nonzero e.c1) (nonzero e.c2) is.term.coefficient (starred_front t.0 is.term.monomial is.higher)
+    lump_by_is (without_zeros (components t.1)) t.1 (starred t.0) (element_pieces t.1 is.term.coefficient) is.term.coefficient (starred_front t.0 is.term.monomial is.higher)
 
 -- ---- polynomials without a constant term
 
@@ -189,7 +190,7 @@ pub higher_text : (t : Term) → IsHigher t → term_in new_names t ≡ lump_tex
 unfolding term_in
 higher_text t is =
     term_by (is_one t.0) (components_text t.1) (signed_text (scaled_text t.1 (starred t.0))) is.higher
-    ∙ scaled_is t.1 (starred t.0) is.term.nonzero is.term.coefficient.c1.small is.term.coefficient.c2.small (factors_inside (starred t.0) (starred_front t.0 is.term.monomial is.higher))
+    ∙ scaled_is t.1 (starred t.0)
 
 higher_texts : (ts : List Term) → AllByRecursion IsHigher ts → flat_map (term_in new_names) ts ≡ flat_map lump_text (map lump_of ts)
 higher_texts [] is = refl
@@ -205,65 +206,59 @@ abbrev simple : Piece → Lump
 simple p = Simple p.0 p.1
 
 abbrev first_lumps : Bool → Term → List Lump
-first_lumps one t = cond one (map simple (pieces_of t.1)) (lump_of t ∷ [])
+first_lumps one t = cond one (map simple (without_zeros (components t.1))) (lump_of t ∷ [])
 
 abbrev lumps_all : List Term → List Lump
 lumps_all [] = []
 lumps_all (t ∷ ts) = first_lumps (is_one t.0) t ++ map lump_of ts
 
-abbrev IsInner : Lump → Type 0
-IsInner l = (decode l).1 ≡ []
+-- one piece without the letter u, as of a constant term
+abbrev pub IsInner : Lump → Type 0
+IsInner (Simple q body) = IsPlain body
+IsInner (Bracketed e body) = ⊥
 
 abbrev pub IsOuter : Lump → Type 0
-IsOuter l = (decode l).1 ≡ [] → ⊥
+IsOuter l = IsInner l → ⊥
 
 cut_lumps : (a b x y : List Lump) → AllByRecursion IsInner a → AllByRecursion IsInner b → AllByRecursion IsOuter x → AllByRecursion IsOuter y → a ++ x ≡ b ++ y → (a ≡ b) × (x ≡ y)
 cut_lumps [] [] x y ia ib ox oy e = (refl, e)
 cut_lumps [] (b ∷ bs) [] y ia ib ox oy e = absurd cc
-cut_lumps [] (b ∷ bs) (c ∷ cs) y ia ib ox oy e = absurd (ox.0 (ap (λ (l : Lump). (decode l).1) (cons_is c b cs (bs ++ y) e).0 ∙ ib.0))
+cut_lumps [] (b ∷ bs) (c ∷ cs) y ia ib ox oy e = absurd (ox.0 (subst IsInner (sym (cons_is c b cs (bs ++ y) e).0) ib.0))
 cut_lumps (a ∷ more) [] x [] ia ib ox oy e = absurd cc
-cut_lumps (a ∷ more) [] x (c ∷ cs) ia ib ox oy e = absurd (oy.0 (sym (ap (λ (l : Lump). (decode l).1) (cons_is a c (more ++ x) cs e).0) ∙ ia.0))
+cut_lumps (a ∷ more) [] x (c ∷ cs) ia ib ox oy e = absurd (oy.0 (subst IsInner (cons_is a c (more ++ x) cs e).0 ia.0))
 cut_lumps (a ∷ more) (b ∷ bs) x y ia ib ox oy e =
     let h = cons_is a b (more ++ x) (bs ++ y) e in
     let r = cut_lumps more bs x y ia.1 ib.1 ox oy h.1 in
     (cc (h.0, r.0), r.1)
 
-inner_by : (z0 z1 z2 : Bool) (e : Element) → AllByRecursion IsInner (map simple (with_tests z0 z1 z2 e))
-inner_by true true true e = tt
-inner_by false true true e = (refl, tt)
-inner_by true false true e = (refl, tt)
-inner_by true true false e = (refl, tt)
-inner_by false false true e = (refl, (refl, tt))
-inner_by false true false e = (refl, (refl, tt))
-inner_by true false false e = (refl, (refl, tt))
-inner_by false false false e = (refl, (refl, (refl, tt)))
+inner_pieces : (ps : List Piece) → AllByRecursion (λ p. IsPlain p.1) ps → AllByRecursion IsInner (map simple ps)
+inner_pieces [] all = tt
+inner_pieces (p ∷ ps) all = (all.0, inner_pieces ps all.1)
 
-inner : (e : Element) → AllByRecursion IsInner (map simple (pieces_of e))
-inner e = inner_by (is_zero_fraction e.c0) (is_zero_fraction e.c1) (is_zero_fraction e.c2) e
+inner : (e : Element) → AllByRecursion IsInner (map simple (without_zeros (components e)))
+inner e = inner_pieces (without_zeros (components e)) (plain_element e)
 
-some_by : (z0 z1 z2 : Bool) (e : Element) → (z0 ≡ true → z1 ≡ true → z2 ≡ true → ⊥) → map simple (with_tests z0 z1 z2 e) ≡ [] → ⊥
-some_by true true true e some q = some refl refl refl
-some_by false true true e some q = cc
-some_by true false true e some q = cc
-some_by true true false e some q = cc
-some_by false false true e some q = cc
-some_by false true false e some q = cc
-some_by true false false e some q = cc
-some_by false false false e some q = cc
+simple_nil : (ps : List Piece) → map simple ps ≡ [] → ps ≡ []
+simple_nil [] e = refl
+simple_nil (p ∷ ps) e = absurd cc
+
+with_factors : (body b : List ℕ) → IsFactors b → IsPlain (body ++ b) → ⊥
+with_factors [] [] f is = f
+with_factors [] (star ∷ []) f is = f
+with_factors [] (star ∷ c ∷ r) f is = is.1.0 f.1
+with_factors (x ∷ body) b f is = with_factors body b f is.1
+
+outer_by : (ps : List Piece) (e : Element) (b : List ℕ) → IsFactors b → IsOuter (lump_by ps e b)
+outer_by [] e b f is = is
+outer_by (p ∷ []) e b f is = with_factors p.1 b f is
+outer_by (p ∷ q ∷ ps) e b f is = is
 
 pub outer : (t : Term) → IsHigher t → IsOuter (lump_of t)
-outer t is q =
-    let f = factors_is (starred t.0) (starred_front t.0 is.term.monomial is.higher) in
-    let d = decoded t.1 (starred t.0) is.term.coefficient (starred_front t.0 is.term.monomial is.higher) in
-    let nothing : 42 ∷ 117 ∷ f.0 ≡ [] = sym f.1 ∙ sym (ap (λ (z : Read). z.1) d) ∙ q in
-    cc
+outer t is = outer_by (without_zeros (components t.1)) t.1 (starred t.0) (starred_front t.0 is.term.monomial is.higher)
 
 all_outer : (ts : List Term) → AllByRecursion IsHigher ts → AllByRecursion IsOuter (map lump_of ts)
 all_outer [] is = tt
 all_outer (t ∷ ts) is = (outer t is.0, all_outer ts is.1)
-
-piece_is : (p q : Piece) → p.0 ≡ q.0 → p.1 ≡ q.1 → p ≡ q
-piece_is p q a b = λ i. (a i, b i)
 
 both : (a b : Bool) → (a && b) ≡ true → (a ≡ true) × (b ≡ true)
 both true b e = (refl, e)
@@ -275,10 +270,8 @@ unsimple [] (q ∷ qs) e = absurd cc
 unsimple (p ∷ ps) [] e = absurd cc
 unsimple (p ∷ ps) (q ∷ qs) e =
     let h = cons_is (simple p) (simple q) (map simple ps) (map simple qs) e in
-    let same : Simple p.0 p.1 ≡ Simple q.0 q.1 = h.0 in
-    let a : p.0 ≡ q.0 = cc in
-    let b : p.1 ≡ q.1 = cc in
-    let first : p ≡ q = piece_is p q a b in
+    let same = simple_tells p.0 q.0 p.1 q.1 h.0 in
+    let first : p ≡ q = piece_is p q same.0 same.1 in
     let others = unsimple ps qs h.1 in
     cc (first, others)
 
@@ -296,20 +289,20 @@ zeros_same (e ∷ es) (f ∷ fs) len a b =
 first_tells : (a b : Bool) (t u : Term) (ts us : List Term) → is_one t.0 ≡ a → is_one u.0 ≡ b → IsTerm t → IsTerm u → AllByRecursion IsHigher ts → AllByRecursion IsHigher us
     → first_lumps a t ++ map lump_of ts ≡ first_lumps b u ++ map lump_of us → t ∷ ts ≡ u ∷ us
 first_tells true true t u ts us at au ot ou hs is e =
-    let h = cut_lumps (map simple (pieces_of t.1)) (map simple (pieces_of u.1)) (map lump_of ts) (map lump_of us) (inner t.1) (inner u.1) (all_outer ts hs) (all_outer us is) e in
-    let c = pieces_tell t.1 u.1 ot.coefficient ou.coefficient (unsimple (pieces_of t.1) (pieces_of u.1) h.0) in
+    let h = cut_lumps (map simple (without_zeros (components t.1))) (map simple (without_zeros (components u.1))) (map lump_of ts) (map lump_of us) (inner t.1) (inner u.1) (all_outer ts hs) (all_outer us is) e in
+    let c = element_tells t.1 u.1 ot.coefficient ou.coefficient (unsimple (without_zeros (components t.1)) (without_zeros (components u.1)) h.0) in
     let m = zeros_same t.0.e u.0.e (ot.monomial.eight ∙ sym ou.monomial.eight) at au in
     let first = term_is t u (exponents_is t.0 u.0 m) c in
     let others = higher_tell ts us hs is h.1 in
     cc (first, others)
 first_tells true false t u ts us at au ot ou hs is e =
     let high : IsHigher u = record { term = ou; higher = au } in
-    let h = cut_lumps (map simple (pieces_of t.1)) [] (map lump_of ts) (lump_of u ∷ map lump_of us) (inner t.1) tt (all_outer ts hs) (outer u high, all_outer us is) e in
-    absurd (some_by (is_zero_fraction t.1.c0) (is_zero_fraction t.1.c1) (is_zero_fraction t.1.c2) t.1 ot.nonzero h.0)
+    let h = cut_lumps (map simple (without_zeros (components t.1))) [] (map lump_of ts) (lump_of u ∷ map lump_of us) (inner t.1) tt (all_outer ts hs) (outer u high, all_outer us is) e in
+    absurd (ot.some (simple_nil (without_zeros (components t.1)) h.0))
 first_tells false true t u ts us at au ot ou hs is e =
     let high : IsHigher t = record { term = ot; higher = at } in
-    let h = cut_lumps (map simple (pieces_of u.1)) [] (map lump_of us) (lump_of t ∷ map lump_of ts) (inner u.1) tt (all_outer us is) (outer t high, all_outer ts hs) (sym e) in
-    absurd (some_by (is_zero_fraction u.1.c0) (is_zero_fraction u.1.c1) (is_zero_fraction u.1.c2) u.1 ou.nonzero h.0)
+    let h = cut_lumps (map simple (without_zeros (components u.1))) [] (map lump_of us) (lump_of t ∷ map lump_of ts) (inner u.1) tt (all_outer us is) (outer t high, all_outer ts hs) (sym e) in
+    absurd (ou.some (simple_nil (without_zeros (components u.1)) h.0))
 first_tells false false t u ts us at au ot ou hs is e =
     higher_tell (t ∷ ts) (u ∷ us) (record { term = ot; higher = at }, hs) (record { term = ou; higher = au }, is) e
 
@@ -318,7 +311,7 @@ front_nil [] ys e = refl
 front_nil (x ∷ xs) ys e = absurd cc
 
 none_first : (a : Bool) (t : Term) (l : List Lump) → IsTerm t → first_lumps a t ++ l ≡ [] → ⊥
-none_first true t l is e = some_by (is_zero_fraction t.1.c0) (is_zero_fraction t.1.c1) (is_zero_fraction t.1.c2) t.1 is.nonzero (front_nil (map simple (pieces_of t.1)) l e)
+none_first true t l is e = is.some (simple_nil (without_zeros (components t.1)) (front_nil (map simple (without_zeros (components t.1))) l e))
 none_first false t l is e = cc
 
 lumps_tell : (ts us : List Term) → IsPolynomial ts → IsPolynomial us → lumps_all ts ≡ lumps_all us → ts ≡ us
@@ -340,7 +333,7 @@ lumps_append [] ys p q = q
 lumps_append (x ∷ xs) ys p q = (p.0, lumps_append xs ys p.1 q)
 
 first_are : (a : Bool) (t : Term) → is_one t.0 ≡ a → IsTerm t → AllByRecursion IsLump (first_lumps a t)
-first_are true t at is = simple_are (pieces_of t.1) (pieces_are t.1 is.coefficient)
+first_are true t at is = simple_are (without_zeros (components t.1)) (element_pieces t.1 is.coefficient)
 first_are false t at is = (higher_lump t (record { term = is; higher = at }), tt)
 
 lumps_are : (ts : List Term) → IsPolynomial ts → AllByRecursion IsLump (lumps_all ts)
@@ -349,7 +342,7 @@ lumps_are (t ∷ ts) is = lumps_append (first_lumps (is_one t.0) t) (map lump_of
 
 first_text : (a : Bool) (t : Term) → is_one t.0 ≡ a → IsTerm t → term_in new_names t ≡ flat_map lump_text (first_lumps a t)
 unfolding term_in
-first_text true t at is = ap (λ (z : Bool). cond z (components_text t.1) (signed_text (scaled_text t.1 (starred t.0)))) at ∙ components_are t.1 ∙ simple_texts (pieces_of t.1)
+first_text true t at is = ap (λ (z : Bool). cond z (components_text t.1) (signed_text (scaled_text t.1 (starred t.0)))) at ∙ components_are t.1 ∙ simple_texts (without_zeros (components t.1))
 first_text false t at is = higher_text t (record { term = is; higher = at }) ∙ sym (append-nil (lump_text (lump_of t)))
 
 texts_are : (ts : List Term) → IsPolynomial ts → flat_map (term_in new_names) ts ≡ flat_map lump_text (lumps_all ts)

@@ -1,13 +1,13 @@
 -- Names, algebras and modulus lines are told from their texts, and so are the parts of a change.
-use Rattle.std.proofs.Common.{◌≡◌, ℕ, ◌-◌, ◌≤◌, Bool, true, false, eqb, leb, ◌&&◌, ◌||◌, ◌⊎◌, inl, inr, List, [], ◌∷◌, ◌++◌, length, take, drop, refl, sym, ap, ◌∙◌, append_assoc, arith}
+use Rattle.std.proofs.Common.{◌≡◌, ℕ, ◌-◌, ◌≤◌, Bool, true, false, cond, eqb, leb, ◌&&◌, ◌||◌, ◌⊎◌, inl, inr, List, [], ◌∷◌, ◌++◌, length, take, drop, get_or, IsTrue, refl, sym, ap, ◌∙◌, append_assoc, arith}
 use Rattle.std.specs.Prelude.{codes, map}
 use Rattle.std.specs.List.{AllByRecursion, flat_map, list_all}
 use Rattle.std.proofs.Math.Nat.{min-eq_left}
 use Rattle.std.proofs.lemmas.Bool.{eqb-true, leb-true}
-use Rattle.std.proofs.lemmas.List.{take-append-drop, length-take-le, length-drop}
+use Rattle.std.proofs.lemmas.List.{append-nil, take-append-drop, length-take-le, length-drop}
 use Rattle.ring_law.specs.declared.fraction.Frac.{Frac}
 use Rattle.ext_algebra.specs.declared.algebra.Algebra.{Algebra}
-use Rattle.ext_algebra.specs.declared.algebra.Algebra.TheVariants.{Rational, Quadratic, Cubic}
+use Rattle.ext_algebra.specs.declared.algebra.Algebra.TheVariants.{Rational, Quadratic, Cubic, Tower}
 use Rattle.ext_algebra.specs.Fractions.{is_frac}
 use Rattle.ext_algebra.specs.Algebra.{is_algebra}
 use Rattle.jet_poly.specs.JetTerms.{JetTerms}
@@ -15,16 +15,15 @@ use Rattle.line_syntax.specs.Syntax.{is_name, is_letter, is_digit}
 use Rattle.normal_forms.specs.declared.modulus_line.ModulusLine.{ModulusLine}
 use Rattle.normal_forms.specs.declared.modulus_line.ModulusLine.TheVariants as moduli
 use Rattle.poly_text.specs.declared.name.Name.{Name}
-use Rattle.poly_text.specs.Numbers.{fraction_text, component, signed_text, element_text, is_zero_fraction}
+use Rattle.poly_text.specs.Numbers.{fraction_text, component_text, element_text}
 use Rattle.poly_text.specs.Polynomials.{name_text, polynomial_in, jet_text}
-use Rattle.cert_text.specs.Text.{line, algebra_text, part_text, parts_text, modulus_text}
+use Rattle.cert_text.specs.Text.{line, algebra_text, cubic_text, opposite_text, other_sign, square_text, part_text, parts_text, modulus_text}
 use Rattle.cert_text.specs.WellFormed.{is_valid_name}
 use Rattle.cert_law.specs.Unique.{Starts}
-use Rattle.cert_law.specs.Fields.{Element, Term, EndsSum, EndsFraction, Piece, IsPiece, piece_text, IsComponent, IsSmallElement, IsPolynomial}
+use Rattle.cert_law.specs.Fields.{Element, Term, EndsSum, EndsFraction, IsComponent, IsSmallElement, IsPolynomial}
 use Rattle.cert_law.proofs.Cut.{head, cut, same_front}
 use Rattle.cert_law.proofs.Numbers.{fraction_one}
-use Rattle.cert_law.proofs.Sums.{pieces_one}
-use Rattle.cert_law.proofs.Elements.{element_one, piece_of, piece_flat, one_piece, nonzero, all_append, same_zero, first_of_piece, last_one, misses_one, misses_two}
+use Rattle.cert_law.proofs.Elements.{element_one, numbers_one}
 use Rattle.cert_law.proofs.Jets.{polynomial_one, zeros_same}
 use Rattle.cert_law.proofs.Valid.{both, all_from, component_by}
 
@@ -156,113 +155,101 @@ parts_one (m ∷ ms) (n ∷ ns) (f ∷ fs) (g ∷ gs) x y of og e =
 
 -- ---- algebras
 
-abbrev flat : List Piece → List ℕ
-flat ps = flat_map piece_text ps
+abbrev quadratic_letters : List (List ℕ)
+quadratic_letters = codes "*t" ∷ [] ∷ []
 
-abbrev linear_text : Frac → List ℕ
-linear_text m1 = flat_map signed_text (component m1 (codes "*t"))
+abbrev cubic_letters : List (List ℕ)
+cubic_letters = codes "*t^2" ∷ codes "*t" ∷ [] ∷ []
 
-abbrev constant_text : Frac → List ℕ
-constant_text m0 = flat_map signed_text (component m0 [])
+quadratic_one : (p1 p0 q1 q0 : Frac) (x y : List ℕ) → AllByRecursion IsComponent (p1 ∷ p0 ∷ []) → AllByRecursion IsComponent (q1 ∷ q0 ∷ []) → Starts EndsSum x → Starts EndsSum y
+    → flat_map component_text ((p1, codes "*t") ∷ (p0, []) ∷ []) ++ x ≡ flat_map component_text ((q1, codes "*t") ∷ (q0, []) ∷ []) ++ y → (Quadratic p1 p0 ≡ Quadratic q1 q0) × (x ≡ y)
+quadratic_one p1 p0 q1 q0 x y cp cq sx sy e =
+    let h = numbers_one (p1 ∷ p0 ∷ []) (q1 ∷ q0 ∷ []) quadratic_letters x y ((λ z. absurd cc, tt), (tt, tt)) ((refl, omega arith, tt), (tt, tt)) refl refl cp cq sx sy e in
+    (ap (λ (ms : List Frac). Quadratic (get_or ms 0 p0) (get_or ms 1 p0)) h.0, h.1)
 
-abbrev square_text : Frac → List ℕ
-square_text m2 = flat_map signed_text (component m2 (codes "*t^2"))
+cubic_one : (p2 p1 p0 q2 q1 q0 : Frac) (x y : List ℕ) → AllByRecursion IsComponent (p2 ∷ p1 ∷ p0 ∷ []) → AllByRecursion IsComponent (q2 ∷ q1 ∷ q0 ∷ []) → Starts EndsSum x → Starts EndsSum y
+    → cubic_text p2 p1 p0 ++ x ≡ cubic_text q2 q1 q0 ++ y → (p2 ∷ p1 ∷ p0 ∷ [] ≡ q2 ∷ q1 ∷ q0 ∷ []) × (x ≡ y)
+cubic_one p2 p1 p0 q2 q1 q0 x y cp cq sx sy e =
+    numbers_one (p2 ∷ p1 ∷ p0 ∷ []) (q2 ∷ q1 ∷ q0 ∷ []) cubic_letters x y ((λ z. absurd cc, (λ z. absurd cc, tt)), ((λ z. absurd cc, tt), (tt, tt)))
+    ((refl, omega arith, (inl (omega arith), (inl (omega arith), tt))), ((refl, omega arith, tt), (tt, tt))) refl refl cp cq sx sy (same_front (codes "t^3") _ _ e)
 
-flat_append : (xs ys : List Piece) → flat (xs ++ ys) ≡ flat xs ++ flat ys
-flat_append [] ys = refl
-flat_append (x ∷ xs) ys = ap (λ (z : List ℕ). piece_text x ++ z) (flat_append xs ys) ∙ sym (append_assoc (piece_text x) (flat xs) (flat ys))
+pub other_sign_twice : (b : ℕ) → other_sign (other_sign b) ≡ b
+other_sign_twice b = by_tests (eqb b 43) (eqb b 45) refl refl
+  where
+    by_tests : (s t : Bool) → eqb b 43 ≡ s → eqb b 45 ≡ t → other_sign (cond s 45 (cond t 43 b)) ≡ b
+    by_tests true t plus minus = sym (eqb-true b 43 plus)
+    by_tests false true plus minus = sym (eqb-true b 45 minus)
+    by_tests false false plus minus = ap (λ (z : Bool). cond z 45 (cond (eqb b 45) 43 b)) plus ∙ ap (λ (z : Bool). cond z 43 b) minus
 
-abbrev two_pieces : Frac → Frac → List Piece
-two_pieces m1 m0 = piece_of m1 (codes "*t") ++ piece_of m0 []
+-- the sign turned again
+opposite_twice : (c x : List ℕ) → opposite_text (opposite_text c ++ 10 ∷ x) ≡ c ++ 10 ∷ x
+opposite_twice [] x = refl
+opposite_twice (b ∷ c) x = ap (λ (n : ℕ). n ∷ (c ++ 10 ∷ x)) (other_sign_twice b)
 
-two_flat : (m1 m0 : Frac) (x : List ℕ) → (linear_text m1 ++ constant_text m0) ++ x ≡ flat (two_pieces m1 m0) ++ x
-two_flat m1 m0 x =
-    ap (λ (z : List ℕ). (z ++ constant_text m0) ++ x) (piece_flat (is_zero_fraction m1) m1 (codes "*t"))
-    ∙ ap (λ (z : List ℕ). (flat (piece_of m1 (codes "*t")) ++ z) ++ x) (piece_flat (is_zero_fraction m0) m0 [])
-    ∙ ap (λ (z : List ℕ). z ++ x) (sym (flat_append (piece_of m1 (codes "*t")) (piece_of m0 [])))
+square_one : (d e : Frac) (x y : List ℕ) → IsComponent d → IsComponent e → square_text d ++ (10 ∷ x) ≡ square_text e ++ (10 ∷ y) → (d ≡ e) × (x ≡ y)
+square_one d e x y cd ce eq =
+    let turned = same_front (codes " ; s^2") (opposite_text (component_text (d, [])) ++ (10 ∷ x)) (opposite_text (component_text (e, [])) ++ (10 ∷ y)) eq in
+    let there : component_text (d, []) ++ (10 ∷ x) ≡ component_text (e, []) ++ (10 ∷ y) = sym (opposite_twice (component_text (d, [])) x) ∙ ap opposite_text turned ∙ opposite_twice (component_text (e, [])) y in
+    let h = numbers_one (d ∷ []) (e ∷ []) ([] ∷ []) (10 ∷ x) (10 ∷ y) (tt, tt) (tt, tt) refl refl (cd, tt) (ce, tt) (omega arith) (omega arith)
+    (ap (λ (z : List ℕ). z ++ (10 ∷ x)) (append-nil (component_text (d, []))) ∙ there ∙ ap (λ (z : List ℕ). z ++ (10 ∷ y)) (sym (append-nil (component_text (e, []))))) in
+    (ap (λ (ms : List Frac). get_or ms 0 d) h.0, (head 10 10 x y h.1).1)
 
-t_pieces : (q : Frac) → IsComponent q → AllByRecursion IsPiece (piece_of q (codes "*t"))
-t_pieces q is = one_piece (is_zero_fraction q) q (codes "*t") (nonzero q) is.small (refl, omega arith, tt)
+three_by : (m2 m1 m0 : Frac) → IsTrue (is_frac m2) → IsTrue (is_frac m1) → IsTrue (is_frac m0) → AllByRecursion IsComponent (m2 ∷ m1 ∷ m0 ∷ [])
+three_by m2 m1 m0 v2 v1 v0 = (component_by m2 v2, (component_by m1 v1, (component_by m0 v0, tt)))
 
-t2_pieces : (q : Frac) → IsComponent q → AllByRecursion IsPiece (piece_of q (codes "*t^2"))
-t2_pieces q is = one_piece (is_zero_fraction q) q (codes "*t^2") (nonzero q) is.small (refl, omega arith, (inl (omega arith), (inl (omega arith), tt)))
+tower_is : (p2 p1 p0 d q2 q1 q0 e : Frac) → p2 ∷ p1 ∷ p0 ∷ [] ≡ q2 ∷ q1 ∷ q0 ∷ [] → d ≡ e → Tower p2 p1 p0 d ≡ Tower q2 q1 q0 e
+tower_is p2 p1 p0 d q2 q1 q0 e ms de = λ i. Tower (get_or (ms i) 0 p0) (get_or (ms i) 1 p0) (get_or (ms i) 2 p0) (de i)
 
-one_pieces : (q : Frac) → IsComponent q → AllByRecursion IsPiece (piece_of q [])
-one_pieces q is = one_piece (is_zero_fraction q) q [] (nonzero q) is.small tt
-
-two_tell : (p1 p0 q1 q0 : Frac) → IsComponent p1 → IsComponent p0 → IsComponent q1 → IsComponent q0 → two_pieces p1 p0 ≡ two_pieces q1 q0 → (p1 ≡ q1) × (p0 ≡ q0)
-two_tell p1 p0 q1 q0 c1 c0 d1 d0 e =
-    let a = first_of_piece (is_zero_fraction p1) (is_zero_fraction q1) p1 q1 (codes "*t") _ _ (λ x y. same_zero p1 q1 x y c1 d1)
-    (misses_one (is_zero_fraction p0) p0 (codes "*t") [] (λ z. absurd cc)) (misses_one (is_zero_fraction q0) q0 (codes "*t") [] (λ z. absurd cc)) e in
-    (a.0, last_one (is_zero_fraction p0) (is_zero_fraction q0) p0 q0 [] (λ x y. same_zero p0 q0 x y c0 d0) a.1)
-
-two_one : (p1 p0 q1 q0 : Frac) (x y : List ℕ) → IsComponent p1 → IsComponent p0 → IsComponent q1 → IsComponent q0 → Starts EndsSum x → Starts EndsSum y
-    → (linear_text p1 ++ constant_text p0) ++ x ≡ (linear_text q1 ++ constant_text q0) ++ y → (p1 ≡ q1) × (p0 ≡ q0) × (x ≡ y)
-two_one p1 p0 q1 q0 x y c1 c0 d1 d0 sx sy e =
-    let h = pieces_one (two_pieces p1 p0) (two_pieces q1 q0) x y
-    (all_append (piece_of p1 (codes "*t")) (piece_of p0 []) (t_pieces p1 c1) (one_pieces p0 c0)) (all_append (piece_of q1 (codes "*t")) (piece_of q0 []) (t_pieces q1 d1) (one_pieces q0 d0))
-    sx sy (sym (two_flat p1 p0 x) ∙ e ∙ two_flat q1 q0 y) in
-    let t = two_tell p1 p0 q1 q0 c1 c0 d1 d0 h.0 in
-    (t.0, t.1, h.1)
-
-abbrev three_pieces : Frac → Frac → Frac → List Piece
-three_pieces m2 m1 m0 = piece_of m2 (codes "*t^2") ++ two_pieces m1 m0
-
-three_flat : (m2 m1 m0 : Frac) (x : List ℕ) → (square_text m2 ++ (linear_text m1 ++ constant_text m0)) ++ x ≡ flat (three_pieces m2 m1 m0) ++ x
-three_flat m2 m1 m0 x =
-    append_assoc (square_text m2) (linear_text m1 ++ constant_text m0) x
-    ∙ ap (λ (z : List ℕ). z ++ ((linear_text m1 ++ constant_text m0) ++ x)) (piece_flat (is_zero_fraction m2) m2 (codes "*t^2"))
-    ∙ ap (λ (z : List ℕ). flat (piece_of m2 (codes "*t^2")) ++ z) (two_flat m1 m0 x)
-    ∙ sym (append_assoc (flat (piece_of m2 (codes "*t^2"))) (flat (two_pieces m1 m0)) x)
-    ∙ ap (λ (z : List ℕ). z ++ x) (sym (flat_append (piece_of m2 (codes "*t^2")) (two_pieces m1 m0)))
-
-three_one : (p2 p1 p0 q2 q1 q0 : Frac) (x y : List ℕ) → IsComponent p2 → IsComponent p1 → IsComponent p0 → IsComponent q2 → IsComponent q1 → IsComponent q0 → Starts EndsSum x → Starts EndsSum y
-    → (square_text p2 ++ (linear_text p1 ++ constant_text p0)) ++ x ≡ (square_text q2 ++ (linear_text q1 ++ constant_text q0)) ++ y → (p2 ≡ q2) × (p1 ≡ q1) × (p0 ≡ q0) × (x ≡ y)
-three_one p2 p1 p0 q2 q1 q0 x y c2 c1 c0 d2 d1 d0 sx sy e =
-    let all_p = all_append (piece_of p2 (codes "*t^2")) (two_pieces p1 p0) (t2_pieces p2 c2) (all_append (piece_of p1 (codes "*t")) (piece_of p0 []) (t_pieces p1 c1) (one_pieces p0 c0)) in
-    let all_q = all_append (piece_of q2 (codes "*t^2")) (two_pieces q1 q0) (t2_pieces q2 d2) (all_append (piece_of q1 (codes "*t")) (piece_of q0 []) (t_pieces q1 d1) (one_pieces q0 d0)) in
-    let h = pieces_one (three_pieces p2 p1 p0) (three_pieces q2 q1 q0) x y all_p all_q sx sy (sym (three_flat p2 p1 p0 x) ∙ e ∙ three_flat q2 q1 q0 y) in
-    let a = first_of_piece (is_zero_fraction p2) (is_zero_fraction q2) p2 q2 (codes "*t^2") _ _ (λ u v. same_zero p2 q2 u v c2 d2)
-    (misses_two (is_zero_fraction p1) (is_zero_fraction p0) p1 p0 (codes "*t^2") (codes "*t") [] (λ z. absurd cc) (λ z. absurd cc))
-    (misses_two (is_zero_fraction q1) (is_zero_fraction q0) q1 q0 (codes "*t^2") (codes "*t") [] (λ z. absurd cc) (λ z. absurd cc)) h.0 in
-    let t = two_tell p1 p0 q1 q0 c1 c0 d1 d0 a.1 in
-    (a.0, t.0, t.1, h.1)
-
-quadratic_is : (p1 p0 q1 q0 : Frac) → p1 ≡ q1 → p0 ≡ q0 → Quadratic p1 p0 ≡ Quadratic q1 q0
-quadratic_is p1 p0 q1 q0 a b = λ i. Quadratic (a i) (b i)
-
-cubic_is : (p2 p1 p0 q2 q1 q0 : Frac) → p2 ≡ q2 → p1 ≡ q1 → p0 ≡ q0 → Cubic p2 p1 p0 ≡ Cubic q2 q1 q0
-cubic_is p2 p1 p0 q2 q1 q0 a b c = λ i. Cubic (a i) (b i) (c i)
+cubic_or_tower : (p2 p1 p0 q2 q1 q0 d : Frac) (x y : List ℕ) → is_algebra (Cubic p2 p1 p0) ≡ true → is_algebra (Tower q2 q1 q0 d) ≡ true
+    → algebra_text (Cubic p2 p1 p0) ++ (10 ∷ x) ≡ algebra_text (Tower q2 q1 q0 d) ++ (10 ∷ y) → ⊥
+unfolding algebra_text is_algebra
+cubic_or_tower p2 p1 p0 q2 q1 q0 d x y va vb e =
+    let a = both (is_frac p2) (is_frac p1 && is_frac p0) va in
+    let a2 = both (is_frac p1) (is_frac p0) a.1 in
+    let b = both (is_frac q2) (is_frac q1 && (is_frac q0 && is_frac d)) vb in
+    let b2 = both (is_frac q1) (is_frac q0 && is_frac d) b.1 in
+    let b3 = both (is_frac q0) (is_frac d) b2.1 in
+    let h = cubic_one p2 p1 p0 q2 q1 q0 (10 ∷ x) (square_text d ++ 10 ∷ y) (three_by p2 p1 p0 a.0 a2.0 a2.1) (three_by q2 q1 q0 b.0 b2.0 b3.0) (omega arith) (omega arith) (e ∙ append_assoc (cubic_text q2 q1 q0) (square_text d) (10 ∷ y)) in
+    let k = (head 10 32 _ _ h.1).0 in omega (arith, k)
 
 pub algebra_one : (a b : Algebra) (x y : List ℕ) → is_algebra a ≡ true → is_algebra b ≡ true → algebra_text a ++ (10 ∷ x) ≡ algebra_text b ++ (10 ∷ y) → (a ≡ b) × (x ≡ y)
 unfolding algebra_text is_algebra
 algebra_one Rational Rational x y va vb e = (refl, (head 10 10 x y (head 81 81 _ _ e).1).1)
 algebra_one Rational (Quadratic q1 q0) x y va vb e = (let h = (head 81 116 _ _ e).0 in absurd (omega (arith, h)))
 algebra_one Rational (Cubic q2 q1 q0) x y va vb e = (let h = (head 81 116 _ _ e).0 in absurd (omega (arith, h)))
+algebra_one Rational (Tower q2 q1 q0 d) x y va vb e = (let h = (head 81 116 _ _ e).0 in absurd (omega (arith, h)))
 algebra_one (Quadratic p1 p0) Rational x y va vb e = (let h = (head 116 81 _ _ e).0 in absurd (omega (arith, h)))
 algebra_one (Cubic p2 p1 p0) Rational x y va vb e = (let h = (head 116 81 _ _ e).0 in absurd (omega (arith, h)))
+algebra_one (Tower p2 p1 p0 d) Rational x y va vb e = (let h = (head 116 81 _ _ e).0 in absurd (omega (arith, h)))
 algebra_one (Quadratic p1 p0) (Cubic q2 q1 q0) x y va vb e = (let h = (head 50 51 _ _ (head 94 94 _ _ (head 116 116 _ _ e).1).1).0 in absurd (omega (arith, h)))
+algebra_one (Quadratic p1 p0) (Tower q2 q1 q0 d) x y va vb e = (let h = (head 50 51 _ _ (head 94 94 _ _ (head 116 116 _ _ e).1).1).0 in absurd (omega (arith, h)))
 algebra_one (Cubic p2 p1 p0) (Quadratic q1 q0) x y va vb e = (let h = (head 51 50 _ _ (head 94 94 _ _ (head 116 116 _ _ e).1).1).0 in absurd (omega (arith, h)))
+algebra_one (Tower p2 p1 p0 d) (Quadratic q1 q0) x y va vb e = (let h = (head 51 50 _ _ (head 94 94 _ _ (head 116 116 _ _ e).1).1).0 in absurd (omega (arith, h)))
 algebra_one (Quadratic p1 p0) (Quadratic q1 q0) x y va vb e =
     let a = both (is_frac p1) (is_frac p0) va in
     let b = both (is_frac q1) (is_frac q0) vb in
-    let left : (codes "t^2" ++ linear_text p1 ++ constant_text p0) ++ (10 ∷ x) ≡ codes "t^2" ++ ((linear_text p1 ++ constant_text p0) ++ (10 ∷ x)) = ap (λ (z : List ℕ). z ++ (10 ∷ x)) (append_assoc (codes "t^2") (linear_text p1) (constant_text p0)) in
-    let right : (codes "t^2" ++ linear_text q1 ++ constant_text q0) ++ (10 ∷ y) ≡ codes "t^2" ++ ((linear_text q1 ++ constant_text q0) ++ (10 ∷ y)) = ap (λ (z : List ℕ). z ++ (10 ∷ y)) (append_assoc (codes "t^2") (linear_text q1) (constant_text q0)) in
-    let h = two_one p1 p0 q1 q0 (10 ∷ x) (10 ∷ y) (component_by p1 a.0) (component_by p0 a.1) (component_by q1 b.0) (component_by q0 b.1) (omega arith) (omega arith)
-    (same_front (codes "t^2") _ _ (sym left ∙ e ∙ right)) in
-    (quadratic_is p1 p0 q1 q0 h.0 h.1, (head 10 10 x y h.2).1)
+    let h = quadratic_one p1 p0 q1 q0 (10 ∷ x) (10 ∷ y) (component_by p1 a.0, (component_by p0 a.1, tt)) (component_by q1 b.0, (component_by q0 b.1, tt)) (omega arith) (omega arith) (same_front (codes "t^2") _ _ e) in
+    (h.0, (head 10 10 x y h.1).1)
 algebra_one (Cubic p2 p1 p0) (Cubic q2 q1 q0) x y va vb e =
     let a = both (is_frac p2) (is_frac p1 && is_frac p0) va in
     let a2 = both (is_frac p1) (is_frac p0) a.1 in
     let b = both (is_frac q2) (is_frac q1 && is_frac q0) vb in
     let b2 = both (is_frac q1) (is_frac q0) b.1 in
-    let left : (codes "t^3" ++ square_text p2 ++ linear_text p1 ++ constant_text p0) ++ (10 ∷ x) ≡ codes "t^3" ++ ((square_text p2 ++ (linear_text p1 ++ constant_text p0)) ++ (10 ∷ x)) =
-    ap (λ (z : List ℕ). z ++ (10 ∷ x)) (append_assoc (codes "t^3" ++ square_text p2) (linear_text p1) (constant_text p0) ∙ append_assoc (codes "t^3") (square_text p2) (linear_text p1 ++ constant_text p0)) in
-    let right : (codes "t^3" ++ square_text q2 ++ linear_text q1 ++ constant_text q0) ++ (10 ∷ y) ≡ codes "t^3" ++ ((square_text q2 ++ (linear_text q1 ++ constant_text q0)) ++ (10 ∷ y)) =
-    ap (λ (z : List ℕ). z ++ (10 ∷ y)) (append_assoc (codes "t^3" ++ square_text q2) (linear_text q1) (constant_text q0) ∙ append_assoc (codes "t^3") (square_text q2) (linear_text q1 ++ constant_text q0)) in
-    let h = three_one p2 p1 p0 q2 q1 q0 (10 ∷ x) (10 ∷ y) (component_by p2 a.0) (component_by p1 a2.0) (component_by p0 a2.1) (component_by q2 b.0) (component_by q1 b2.0) (component_by q0 b2.1) (omega arith) (omega arith)
-    (same_front (codes "t^3") _ _ (sym left ∙ e ∙ right)) in
-    (cubic_is p2 p1 p0 q2 q1 q0 h.0 h.1 h.2, (head 10 10 x y h.3).1)
+    let h = cubic_one p2 p1 p0 q2 q1 q0 (10 ∷ x) (10 ∷ y) (three_by p2 p1 p0 a.0 a2.0 a2.1) (three_by q2 q1 q0 b.0 b2.0 b2.1) (omega arith) (omega arith) e in
+    (ap (λ (ms : List Frac). Cubic (get_or ms 0 p0) (get_or ms 1 p0) (get_or ms 2 p0)) h.0, (head 10 10 x y h.1).1)
+algebra_one (Cubic p2 p1 p0) (Tower q2 q1 q0 d) x y va vb e = absurd (cubic_or_tower p2 p1 p0 q2 q1 q0 d x y va vb e)
+algebra_one (Tower p2 p1 p0 d) (Cubic q2 q1 q0) x y va vb e = absurd (cubic_or_tower q2 q1 q0 p2 p1 p0 d y x vb va (sym e))
+algebra_one (Tower p2 p1 p0 d) (Tower q2 q1 q0 f) x y va vb e =
+    let a = both (is_frac p2) (is_frac p1 && (is_frac p0 && is_frac d)) va in
+    let a2 = both (is_frac p1) (is_frac p0 && is_frac d) a.1 in
+    let a3 = both (is_frac p0) (is_frac d) a2.1 in
+    let b = both (is_frac q2) (is_frac q1 && (is_frac q0 && is_frac f)) vb in
+    let b2 = both (is_frac q1) (is_frac q0 && is_frac f) b.1 in
+    let b3 = both (is_frac q0) (is_frac f) b2.1 in
+    let h = cubic_one p2 p1 p0 q2 q1 q0 (square_text d ++ 10 ∷ x) (square_text f ++ 10 ∷ y) (three_by p2 p1 p0 a.0 a2.0 a3.0) (three_by q2 q1 q0 b.0 b2.0 b3.0) (omega arith) (omega arith)
+    (sym (append_assoc (cubic_text p2 p1 p0) (square_text d) (10 ∷ x)) ∙ e ∙ append_assoc (cubic_text q2 q1 q0) (square_text f) (10 ∷ y)) in
+    let k = square_one d f x y (component_by d a3.1) (component_by f b3.1) h.1 in
+    (tower_is p2 p1 p0 d q2 q1 q0 f h.0 k.0, k.1)
 
 -- ---- modulus lines
 

@@ -5,9 +5,9 @@ use Rattle.std.specs.List.{AllByRecursion, flat_map}
 use Rattle.std.proofs.lemmas.Bool.{eqb-true}
 use Rattle.std.proofs.lemmas.Fmt.{decimal_digit}
 use Rattle.ring_law.specs.declared.fraction.Frac.{Frac}
-use Rattle.poly_text.specs.Numbers.{fraction_text, is_whole, product_text, signed_text, without_plus}
+use Rattle.poly_text.specs.Numbers.{Piece, fraction_text, is_whole, piece_text, product_text, signed_text, without_plus}
 use Rattle.cert_law.specs.Unique.{Starts}
-use Rattle.cert_law.specs.Fields.{size, IsSmall, IsBody, EndsPiece, EndsSum, Piece, IsPiece, piece_text, sum_text}
+use Rattle.cert_law.specs.Fields.{size, IsSmall, IsBody, EndsPiece, EndsSum, IsPiece, sum_text}
 use Rattle.cert_law.proofs.Cut.{head}
 use Rattle.cert_law.proofs.Pieces.{Plain, plain, made, magnitude, magnitude_one, piece_one, positive_piece, negative_piece, number_first, plain_number, one_positive}
 

@@ -1,18 +1,20 @@
 -- What well-formedness gives for reading: small numbers, monomials of eight exponents, terms with coefficients other than 0.
-use Rattle.std.proofs.Common.{◌≡◌, ℕ, suc, ◌<◌, ◌^◌, Bool, true, false, eqb, ltb, leb, ◌&&◌, ◌||◌, ◌⊎◌, inl, inr, ℤ, pos, negsuc, List, [], ◌∷◌, length, refl, sym, ap, ◌∙◌, arith}
+use Rattle.std.proofs.Common.{◌≡◌, ℕ, suc, ◌<◌, ◌^◌, Bool, true, false, cond, eqb, ltb, leb, ◌&&◌, ◌||◌, ◌⊎◌, inl, inr, ℤ, pos, negsuc, List, [], ◌∷◌, length, refl, sym, ap, ◌∙◌, arith}
 use Rattle.std.specs.Prelude.{not, sum, unsigned_abs, int_lt}
-use Rattle.std.specs.List.{AllByRecursion, list_all}
+use Rattle.std.specs.List.{AllByRecursion, list_all, zip}
+use Rattle.std.specs.Cmp.Derive.{both_true}
 use Rattle.std.proofs.lemmas.Bool.{eqb-true, ltb-true, leb-true}
 use Rattle.ring_theory.specs.Gcd.{gcd}
 use Rattle.ring_theory.proofs.GcdLaws.{gcd-zero, gcd_comm}
 use Rattle.ring_law.specs.declared.fraction.Frac.{Frac}
 use Rattle.ext_algebra.specs.declared.algebra.Algebra.{Algebra}
-use Rattle.ext_algebra.specs.Fractions.{is_frac, is_zero_frac}
+use Rattle.ext_algebra.specs.Fractions.{is_frac}
 use Rattle.ext_algebra.specs.Algebra.{is_element}
 use Rattle.mono_exp.specs.declared.exponent.Exp.{Exp}
 use Rattle.mono_exp.specs.Exponents.{is_before, is_greater_first}
 use Rattle.mono_exp.proofs.Lists.{sum-cons}
 use Rattle.jet_poly.specs.JetTerms.{JetTerms, AllAfter, IsRising}
+use Rattle.poly_text.specs.Numbers.{Piece, components, is_zero_fraction, letters, numbers, without_zeros}
 use Rattle.poly_text.specs.Polynomials.{is_one}
 use Rattle.cert_text.specs.WellFormed.{is_zero_element, is_monomial_in, is_term_of, IsJetOf}
 use Rattle.cert_law.specs.Fields.{Element, Term, size, IsComponent, IsSmallElement, IsMonomial, IsTerm, IsHigher, IsPolynomial}
@@ -61,10 +63,13 @@ component_by q e =
 pub element_by : (a : Algebra) (e : Element) → is_element a e ≡ true → IsSmallElement e
 unfolding is_element
 element_by a e h =
-    let x = both _ _ h in
-    let y = both _ _ x.1 in
-    let z = both _ _ y.1 in
-    record { c0 = component_by e.c0 x.0; c1 = component_by e.c1 y.0; c2 = component_by e.c2 z.0 }
+    let c0 = both _ _ h in
+    let c1 = both _ _ c0.1 in
+    let c2 = both _ _ c1.1 in
+    let c3 = both _ _ c2.1 in
+    let c4 = both _ _ c3.1 in
+    let c5 = both _ _ c4.1 in
+    (component_by e.c0 c0.0, (component_by e.c1 c1.0, (component_by e.c2 c2.0, (component_by e.c3 c3.0, (component_by e.c4 c4.0, (component_by e.c5 c5.0, tt))))))
 
 -- ---- monomials
 
@@ -107,11 +112,25 @@ not_one true a b e h =
 
 -- ---- terms
 
-not_all : (a b c : Bool) → not (a && (b && c)) ≡ true → a ≡ true → b ≡ true → c ≡ true → ⊥
-not_all true true true h p q r = cc
-not_all true true false h p q r = cc
-not_all true false c h p q r = cc
-not_all false b c h p q r = cc
+none_step : (t : Bool) (q : Frac) (body : List ℕ) (ps : List Piece) → cond (not t) ((q, body) ∷ ps) ps ≡ [] → (t ≡ true) × (ps ≡ [])
+none_step true q body ps e = (refl, e)
+none_step false q body ps e = absurd cc
+
+-- without a piece all numbers are 0
+none_zero : (qs : List Frac) (bodies : List (List ℕ)) → length qs ≡ length bodies → without_zeros (zip qs bodies) ≡ [] → AllByRecursion (λ q. is_zero_fraction q ≡ true) qs
+none_zero [] bodies len e = tt
+none_zero (q ∷ qs) [] len e = absurd (omega (arith, len))
+none_zero (q ∷ qs) (body ∷ bodies) len e = let h = none_step (is_zero_fraction q) q body (without_zeros (zip qs bodies)) e in (h.0, none_zero qs bodies (omega (arith, len)) h.1)
+
+pub some_piece : (e : Element) → is_zero_element e ≡ false → without_zeros (components e) ≡ [] → ⊥
+some_piece e is none =
+    let z = none_zero (numbers e) letters refl none in
+    let all : is_zero_element e ≡ true = both_true z.0 (both_true z.1.0 (both_true z.1.1.0 (both_true z.1.1.1.0 (both_true z.1.1.1.1.0 z.1.1.1.1.1.0)))) in
+    absurd (cc (is, all))
+
+not_true : (t : Bool) → not t ≡ true → t ≡ false
+not_true true e = absurd cc
+not_true false e = refl
 
 pub term_by : (n order : ℕ) (a : Algebra) (t : Term) → order < 256 → is_term_of n order a t ≡ true → IsTerm t
 term_by n order a t le e =
@@ -125,7 +144,7 @@ term_by n order a t le e =
     let low = leb-true (sum t.0.e) order q.1 in
     record {
       coefficient = element_by a t.1 r.0;
-      nonzero = not_all (is_zero_frac t.1.c0) (is_zero_frac t.1.c1) (is_zero_frac t.1.c2) r.1;
+      some = some_piece t.1 (not_true (is_zero_element t.1) r.1);
       monomial = monomial_by n t.0 q.0 (omega (arith, low, le));
     }
 

@@ -2,7 +2,6 @@
 use Rattle.std.proofs.Common.{◌≡◌, ℕ, ◌+◌, ◌*◌, ◌<◌, ◌^◌, Bool, true, false, ltb, eqb, ◌&&◌, List, [], ◌∷◌, ◌++◌, get_or, refl, sym, ap, ◌∙◌, subst, append_assoc, arith}
 use Rattle.std.specs.Prelude.{decimal, not}
 use Rattle.std.specs.List.{AllByRecursion, flat_map}
-use Rattle.ext_algebra.specs.Algebra.{is_algebra}
 use Rattle.poly_text.specs.declared.what.What.{What}
 use Rattle.poly_text.specs.Polynomials.{name_text}
 use Rattle.cert_text.specs.declared.report.Answer.{Answer}
@@ -13,13 +12,13 @@ use Rattle.cert_text.specs.declared.word.Word.TheVariants as words
 use Rattle.cert_text.specs.Words.{word_text}
 use Rattle.cert_text.specs.Names.{what_text, phase_text}
 use Rattle.cert_text.specs.Text.{line, word_line, front_text, named_text, limit_text, outside_text, unresolved_text, answer_text, report_text}
-use Rattle.cert_text.specs.WellFormed.{IsWellFormedAnswer, IsOneLine, IsWellFormed, is_extension}
+use Rattle.cert_text.specs.WellFormed.{IsWellFormedAnswer, IsOneLine, IsWellFormed}
 use Rattle.cert_law.proofs.Cut.{head, cut, same_front}
 use Rattle.cert_law.proofs.Numbers.{number_one, NoDigit}
 use Rattle.cert_law.proofs.Letters.{phase_one, what_one}
 use Rattle.cert_law.proofs.Valid.{both, all_from}
 use Rattle.cert_law.proofs.Parts.{name_one}
-use Rattle.cert_law.proofs.Carrying.{word_rest, number_line, algebra_line}
+use Rattle.cert_law.proofs.Carrying.{word_rest, number_line}
 use Rattle.cert_law.proofs.Reporting.{named_one, limit_one, outside_one, unresolved_one}
 
 -- ---- the kind of an answer, by the first and the third letter behind `answer`
@@ -32,7 +31,6 @@ answer_index (answers.Syntax column what) = 29550
 answer_index (answers.Literal column) = 27764
 answer_index (answers.NotCritical variable) = 28276
 answer_index (answers.Range phase) = 29294
-answer_index (answers.Field modulus) = 26213
 answer_index answers.Unbuilt = 30050
 answer_index (answers.Named r) = 28269
 answer_index (answers.Outside r) = 28532
@@ -45,7 +43,6 @@ answer_index_is (answers.Syntax column what) x = refl
 answer_index_is (answers.Literal column) x = refl
 answer_index_is (answers.NotCritical variable) x = refl
 answer_index_is (answers.Range phase) x = refl
-answer_index_is (answers.Field modulus) x = refl
 answer_index_is answers.Unbuilt x = refl
 answer_index_is (answers.Named r) x = refl
 answer_index_is (answers.Outside r) x = refl
@@ -78,9 +75,6 @@ answers_one (answers.NotCritical m) (answers.NotCritical n) x y wa wb i e =
 answers_one (answers.Range p) (answers.Range q) x y wa wb i e =
     let h = phase_one p q (10 ∷ x) (10 ∷ y) (word_rest words.Range (phase_text p) (phase_text q) x y e) in
     (ap answers.Range h.0, (head 10 10 x y h.1).1)
-answers_one (answers.Field a) (answers.Field b) x y wa wb i e =
-    let h = algebra_line words.Field a b x y (both (is_algebra a) (is_extension a) wa).0 (both (is_algebra b) (is_extension b) wb).0 e in
-    (ap answers.Field h.0, h.1)
 answers_one answers.Unbuilt answers.Unbuilt x y wa wb i e = (refl, same_front (line (word_text words.Unbuilt)) x y e)
 answers_one (answers.Named r) (answers.Named s) x y wa wb i e = let h = named_one r s x y wa wb e in (ap answers.Named h.0, h.1)
 answers_one (answers.Outside r) (answers.Outside s) x y wa wb i e = let h = outside_one r s x y wa wb e in (ap answers.Outside h.0, h.1)
@@ -90,7 +84,6 @@ answers_one (answers.Syntax m v) b x y wa wb i e = absurd (omega (arith, i))
 answers_one (answers.Literal m) b x y wa wb i e = absurd (omega (arith, i))
 answers_one (answers.NotCritical m) b x y wa wb i e = absurd (omega (arith, i))
 answers_one (answers.Range p) b x y wa wb i e = absurd (omega (arith, i))
-answers_one (answers.Field a) b x y wa wb i e = absurd (omega (arith, i))
 answers_one answers.Unbuilt b x y wa wb i e = absurd (omega (arith, i))
 answers_one (answers.Named r) b x y wa wb i e = absurd (omega (arith, i))
 answers_one (answers.Outside r) b x y wa wb i e = absurd (omega (arith, i))

@@ -1,8 +1,8 @@
 -- The fields of a report's lines, and where each ends.
-use Rattle.std.specs.Prelude.{◌≡◌, ℕ, suc, true, false, ◌<◌, ◌≤◌, ◌^◌, ℤ, pos, negsuc, List, [], ◌∷◌, length, ◌⊎◌}
+use Rattle.std.specs.Prelude.{◌≡◌, ℕ, suc, false, ◌<◌, ◌≤◌, ◌^◌, ℤ, pos, negsuc, List, [], ◌∷◌, length, ◌⊎◌}
 use Rattle.poly_text.specs.Polynomials.{is_one}
 use Rattle.std.specs.List.{AllByRecursion, flat_map}
-use Rattle.poly_text.specs.Numbers.{signed_text, product_text, without_plus, is_zero_fraction}
+use Rattle.poly_text.specs.Numbers.{Piece, components, numbers, piece_text, without_plus, without_zeros}
 use Rattle.ring_law.specs.declared.fraction.Frac.{Frac}
 use Rattle.ext_algebra.specs.declared.algebra.Ext.{Ext}
 use Rattle.mono_exp.specs.declared.exponent.Exp.{Exp}
@@ -57,18 +57,13 @@ IsBody (star ∷ c ∷ body) = (star ≡ 42) × (97 ≤ c) × AllByRecursion IsI
 abbrev pub EndsSum : ℕ → Type 0
 EndsSum b = b ≤ 41
 
--- a piece of a sum: its coefficient, and its body
-abbrev pub Piece : Type 0
-Piece = Frac × List ℕ
-
+-- a number other than 0, and its body
 pub record IsPiece (p : Piece) : Type 0 where
   pub small : IsSmall p.0
   pub nonzero : p.0.num ≡ pos 0 → ⊥
   pub body : IsBody p.1
 
-abbrev pub piece_text : Piece → List ℕ
-piece_text p = signed_text (product_text p.0 p.1)
-
+-- the sum of pieces
 abbrev pub sum_text : List Piece → List ℕ
 sum_text ps = without_plus (flat_map piece_text ps)
 
@@ -77,10 +72,9 @@ pub record IsComponent (q : Frac) : Type 0 where
   pub small : IsSmall q
   pub zero_form : q.num ≡ pos 0 → q.den ≡ pos 1
 
-pub record IsSmallElement (e : Element) : Type 0 where
-  pub c0 : IsComponent e.c0
-  pub c1 : IsComponent e.c1
-  pub c2 : IsComponent e.c2
+-- an element with such numbers
+abbrev pub IsSmallElement : Element → Type 0
+IsSmallElement e = AllByRecursion IsComponent (numbers e)
 
 -- a line of units
 pub record IsUnitLine (u : UnitPair) : Type 0 where
@@ -99,7 +93,7 @@ EndsMonomial b = ((48 ≤ b) × (b ≤ 57) → ⊥) × (b ≡ 94 → ⊥) × (b 
 -- a term: its coefficient is not 0
 pub record IsTerm (t : Term) : Type 0 where
   pub coefficient : IsSmallElement t.1
-  pub nonzero : is_zero_fraction t.1.c0 ≡ true → is_zero_fraction t.1.c1 ≡ true → is_zero_fraction t.1.c2 ≡ true → ⊥
+  pub some : without_zeros (components t.1) ≡ [] → ⊥
   pub monomial : IsMonomial t.0
 
 -- a term that is not constant

@@ -40,7 +40,26 @@ unfoldable pub family_numbers : Family → List ℕ
 family_numbers (families.A m) = decimal m
 family_numbers (families.D m) = decimal m
 family_numbers (families.T p q r) = decimal p ++ 44 ∷ decimal q ++ 44 ∷ decimal r ++ 41 ∷ []
-family_numbers _ = []
+family_numbers families.E6 = []
+family_numbers families.E7 = []
+family_numbers families.E8 = []
+family_numbers families.P8 = []
+family_numbers families.X9 = []
+family_numbers families.J10 = []
+family_numbers families.E12 = []
+family_numbers families.E13 = []
+family_numbers families.E14 = []
+family_numbers families.Z11 = []
+family_numbers families.Z12 = []
+family_numbers families.Z13 = []
+family_numbers families.W12 = []
+family_numbers families.W13 = []
+family_numbers families.Q10 = []
+family_numbers families.Q11 = []
+family_numbers families.Q12 = []
+family_numbers families.S11 = []
+family_numbers families.S12 = []
+family_numbers families.U12 = []
 
 unfoldable pub family_text : Family → List ℕ
 family_text family = family_letters family ++ family_numbers family

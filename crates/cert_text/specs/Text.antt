@@ -1,10 +1,10 @@
 -- The text of a report, line by line. Each line ends with a newline.
-use Rattle.std.specs.Prelude.{ℕ, zero, suc, List, [], ◌∷◌, ◌++◌, length, take, drop, codes, decimal}
+use Rattle.std.specs.Prelude.{ℕ, zero, suc, List, [], ◌∷◌, ◌++◌, ◌==◌, if◌then◌else◌, length, take, drop, codes, decimal}
 use Rattle.std.specs.List.{flat_map}
 use Rattle.ring_law.specs.declared.fraction.Frac.{Frac}
 use Rattle.ext_algebra.specs.declared.algebra.Ext.{Ext}
 use Rattle.ext_algebra.specs.declared.algebra.Algebra.{Algebra}
-use Rattle.ext_algebra.specs.declared.algebra.Algebra.TheVariants.{Rational, Quadratic, Cubic}
+use Rattle.ext_algebra.specs.declared.algebra.Algebra.TheVariants.{Rational, Quadratic, Cubic, Tower}
 use Rattle.mono_exp.specs.declared.exponent.Exp.{Exp}
 use Rattle.jet_poly.specs.JetTerms.{JetTerms}
 use Rattle.determinacy.specs.declared.row.MatherRow.{MatherRow}
@@ -12,7 +12,7 @@ use Rattle.milnor_alg.specs.declared.quotient.TableRow.{TableRow}
 use Rattle.normal_forms.specs.declared.modulus_line.ModulusLine.{ModulusLine}
 use Rattle.normal_forms.specs.declared.modulus_line.ModulusLine.TheVariants as moduli
 use Rattle.poly_text.specs.declared.name.Name.{Name}
-use Rattle.poly_text.specs.Numbers.{fraction_text, component, signed_text, element_text}
+use Rattle.poly_text.specs.Numbers.{fraction_text, component_text, element_text}
 use Rattle.poly_text.specs.Polynomials.{name_text, monomial_text, jet_text}
 use Rattle.cert_text.specs.declared.report.Carried.{Carried}
 use Rattle.cert_text.specs.declared.report.Named as named_type
@@ -37,11 +37,29 @@ word_line word text = line (word_text word ++ 32 ∷ text)
 
 -- ---- the carried lines
 
--- a modulus by falling powers of t
+-- t^3 + m2*t^2 + m1*t + m0
+abbrev pub cubic_text : Frac → Frac → Frac → List ℕ
+cubic_text m2 m1 m0 = codes "t^3" ++ flat_map component_text ((m2, codes "*t^2") ∷ (m1, codes "*t") ∷ (m0, []) ∷ [])
+
+-- the other sign; a byte that is no sign stays
+abbrev pub other_sign : ℕ → ℕ
+other_sign b = if b == 43 then 45 else (if b == 45 then 43 else b)
+
+-- a piece with the other sign before it
+abbrev pub opposite_text : List ℕ → List ℕ
+opposite_text [] = []
+opposite_text (sign ∷ magnitude) = other_sign sign ∷ magnitude
+
+-- ` ; ` and s^2 - d
+abbrev pub square_text : Frac → List ℕ
+square_text d = codes " ; s^2" ++ opposite_text (component_text (d, []))
+
+-- the moduli by falling powers, that of t before that of s
 unfoldable pub algebra_text : Algebra → List ℕ
 algebra_text Rational = codes "Q"
-algebra_text (Quadratic m1 m0) = codes "t^2" ++ flat_map signed_text (component m1 (codes "*t")) ++ flat_map signed_text (component m0 [])
-algebra_text (Cubic m2 m1 m0) = codes "t^3" ++ flat_map signed_text (component m2 (codes "*t^2")) ++ flat_map signed_text (component m1 (codes "*t")) ++ flat_map signed_text (component m0 [])
+algebra_text (Quadratic m1 m0) = codes "t^2" ++ flat_map component_text ((m1, codes "*t") ∷ (m0, []) ∷ [])
+algebra_text (Cubic m2 m1 m0) = cubic_text m2 m1 m0
+algebra_text (Tower m2 m1 m0 d) = cubic_text m2 m1 m0 ++ square_text d
 
 -- `x = u1+u2`
 abbrev pub part_inside : Name × JetTerms (Ext Frac) → List ℕ
@@ -180,7 +198,6 @@ answer_text (answers.Syntax column what) = word_line words.Syntax (decimal colum
 answer_text (answers.Literal column) = word_line words.Literal (decimal column)
 answer_text (answers.NotCritical variable) = word_line words.NotCritical (name_text variable)
 answer_text (answers.Range phase) = word_line words.Range (phase_text phase)
-answer_text (answers.Field modulus) = word_line words.Field (algebra_text modulus)
 answer_text answers.Unbuilt = line (word_text words.Unbuilt)
 answer_text (answers.Named r) = named_text r
 answer_text (answers.Outside r) = outside_text r

@@ -1,9 +1,8 @@
 -- Which reports have a text.
-use Rattle.std.specs.Prelude.{◌≡◌, ℕ, ◌*◌, ◌^◌, ◌≤◌, ◌<◌, Bool, true, false, IsTrue, not, ◌&&◌, List, length, take, drop, sum, nat_le, nat_lt, ◌==◌}
+use Rattle.std.specs.Prelude.{◌≡◌, ℕ, ◌*◌, ◌^◌, ◌≤◌, ◌<◌, Bool, true, IsTrue, not, ◌&&◌, List, length, take, drop, sum, nat_le, nat_lt, ◌==◌}
 use Rattle.std.specs.List.{list_all, AllByRecursion}
 use Rattle.ring_law.specs.declared.fraction.Frac.{Frac}
 use Rattle.ext_algebra.specs.declared.algebra.Algebra.{Algebra}
-use Rattle.ext_algebra.specs.declared.algebra.Algebra.TheVariants.{Rational, Quadratic, Cubic}
 use Rattle.ext_algebra.specs.declared.algebra.Ext.{Ext}
 use Rattle.ext_algebra.specs.Fractions.{is_frac, is_zero_frac}
 use Rattle.ext_algebra.specs.Algebra.{is_element, is_algebra}
@@ -34,7 +33,7 @@ is_valid_name name = ((length name.bytes == 4) && nat_le name.len 4) && (is_name
 
 -- the element is 0
 abbrev pub is_zero_element : Ext Frac → Bool
-is_zero_element e = is_zero_frac e.c0 && (is_zero_frac e.c1 && is_zero_frac e.c2)
+is_zero_element e = is_zero_frac e.c0 && (is_zero_frac e.c1 && (is_zero_frac e.c2 && (is_zero_frac e.c3 && (is_zero_frac e.c4 && is_zero_frac e.c5))))
 
 -- eight places, and no variable past the first n
 abbrev pub is_monomial_in : ℕ → Exp → Bool
@@ -145,7 +144,26 @@ abbrev pub has_small_numbers : Family → Bool
 has_small_numbers (families.A m) = nat_lt m 256
 has_small_numbers (families.D m) = nat_lt m 256
 has_small_numbers (families.T p q r) = nat_lt p 256 && (nat_lt q 256 && nat_lt r 256)
-has_small_numbers _ = true
+has_small_numbers families.E6 = true
+has_small_numbers families.E7 = true
+has_small_numbers families.E8 = true
+has_small_numbers families.P8 = true
+has_small_numbers families.X9 = true
+has_small_numbers families.J10 = true
+has_small_numbers families.E12 = true
+has_small_numbers families.E13 = true
+has_small_numbers families.E14 = true
+has_small_numbers families.Z11 = true
+has_small_numbers families.Z12 = true
+has_small_numbers families.Z13 = true
+has_small_numbers families.W12 = true
+has_small_numbers families.W13 = true
+has_small_numbers families.Q10 = true
+has_small_numbers families.Q11 = true
+has_small_numbers families.Q12 = true
+has_small_numbers families.S11 = true
+has_small_numbers families.S12 = true
+has_small_numbers families.U12 = true
 
 -- a family of the list whose numbers are bytes
 abbrev pub IsFamily : Family → Type 0
@@ -179,23 +197,12 @@ pub record IsWellFormedUnresolved (r : unresolved_type.Unresolved) : Type 0 wher
   pub carried : IsWellFormedCarried r.carried
   pub mather : AreRows r.carried r.mather
 
--- the algebra is not Q
-abbrev pub is_extension : Algebra → Bool
-is_extension Rational = false
-is_extension (Quadratic m1 m0) = true
-is_extension (Cubic m2 m1 m0) = true
-
--- a valid algebra other than Q
-abbrev pub IsExtension : Algebra → Type 0
-IsExtension a = IsTrue (is_algebra a && is_extension a)
-
 -- columns below 2^32, a name of the grammar, or what the kind of answer carries
 abbrev pub IsWellFormedAnswer : Answer → Type 0
 IsWellFormedAnswer (answers.Syntax column what) = column < 2 ^ 32
 IsWellFormedAnswer (answers.Literal column) = column < 2 ^ 32
 IsWellFormedAnswer (answers.NotCritical variable) = IsTrue (is_valid_name variable)
 IsWellFormedAnswer (answers.Range phase) = Unit {0}
-IsWellFormedAnswer (answers.Field algebra) = IsExtension algebra
 IsWellFormedAnswer answers.Unbuilt = Unit {0}
 IsWellFormedAnswer (answers.Named r) = IsWellFormedNamed r
 IsWellFormedAnswer (answers.Outside r) = IsWellFormedCarried r.carried

@@ -3,16 +3,29 @@
 ghost use Rattle.std.specs.Prelude.{◌≡◌, ◌++◌, ◌∷◌, OnOk, decimal, codes};
 ghost use Rattle.poly_text.specs.Polynomials.{jet_text};
 ghost use Rattle.cert_text.specs.Words.{word_text};
-ghost use Rattle.cert_text.specs.Text.{line, word_line, algebra_text, part_text, parts_text, spaced, rows_text, carried_text};
+ghost use Rattle.cert_text.specs.Text.{line, word_line, algebra_text, cubic_text, other_sign, square_text, part_text, parts_text, spaced, rows_text, carried_text};
 
 use crate::report::Carried;
 use crate::word::Word;
 use crate::wording::{put_line, put_number_line, put_word};
 use ext_algebra::{Algebra, Ext};
 use jet_poly::Jet;
-use poly_text::{Name, new_names, put_component, put_element, put_name, put_polynomial};
+use poly_text::{
+    Name, new_names, put_component, put_components, put_element, put_name, put_polynomial,
+};
 use ring_law::Frac;
 use std::alloc::{AllocError, Global};
+
+/// The other sign; a byte that is no sign stays.
+pub fn opposite_sign(sign: u8) -> u8
+    ensures { result ≡ other_sign sign }
+{
+    match sign {
+        b'+' => b'-',
+        b'-' => b'+',
+        _ => sign,
+    }
+}
 
 /// Appends a polynomial in the new variables.
 pub fn put_jet(alloc: Global, out: &mut Vec<u8>, f: &Jet<Ext<Frac>>) -> Result<(), AllocError>
@@ -20,6 +33,34 @@ pub fn put_jet(alloc: Global, out: &mut Vec<u8>, f: &Jet<Ext<Frac>>) -> Result<(
 {
     let names = new_names();
     put_polynomial(alloc, out, &names, f)
+}
+
+// Appends the modulus of t of degree 3.
+fn put_cubic(
+    alloc: Global,
+    out: &mut Vec<u8>,
+    m2: Frac,
+    m1: Frac,
+    m0: Frac,
+) -> Result<(), AllocError>
+    ensures { OnOk result (out.new.items ≡ out.old.items ++ cubic_text m2 m1 m0) }
+{
+    out.extend_from_slice(b"t^3")?;
+    put_components(alloc, out, &[(m2, b"*t^2"), (m1, b"*t"), (m0, b"")])
+}
+
+// Appends the modulus of s, whose square is d, behind that of t.
+fn put_square(alloc: Global, out: &mut Vec<u8>, d: Frac) -> Result<(), AllocError>
+    ensures { OnOk result (out.new.items ≡ out.old.items ++ square_text d) }
+{
+    out.extend_from_slice(b" ; s^2")?;
+    let mut piece = Vec::new(alloc);
+    put_component(alloc, &mut piece, d, b"")?;
+    if let [sign, magnitude @ ..] = piece.as_slice() {
+        out.push(opposite_sign(*sign))?;
+        out.extend_from_slice(magnitude)?;
+    }
+    Ok(())
 }
 
 #[tactic(auto, unfolding(crate::specs::Text::algebra_text))]
@@ -30,30 +71,23 @@ fn put_algebra(alloc: Global, out: &mut Vec<u8>, algebra: Algebra) -> Result<(),
         Algebra::Rational => out.push(b'Q')?,
         Algebra::Quadratic { m1, m0 } => {
             out.extend_from_slice(b"t^2")?;
-            put_component(alloc, out, m1, b"*t")?;
-            put_component(alloc, out, m0, b"")?;
+            put_components(alloc, out, &[(m1, b"*t"), (m0, b"")])?;
         }
-        Algebra::Cubic { m2, m1, m0 } => {
-            out.extend_from_slice(b"t^3")?;
-            put_component(alloc, out, m2, b"*t^2")?;
-            put_component(alloc, out, m1, b"*t")?;
-            put_component(alloc, out, m0, b"")?;
+        Algebra::Cubic { m2, m1, m0 } => put_cubic(alloc, out, m2, m1, m0)?,
+        Algebra::Tower { m2, m1, m0, d } => {
+            put_cubic(alloc, out, m2, m1, m0)?;
+            put_square(alloc, out, d)?;
         }
     }
     Ok(())
 }
 
-/// Appends a line of a word and an algebra.
+// Appends the line of the algebra.
 #[tactic(auto, unfolding(crate::specs::Text::line, crate::specs::Text::word_line))]
-pub fn put_algebra_line(
-    alloc: Global,
-    out: &mut Vec<u8>,
-    word: Word,
-    algebra: Algebra,
-) -> Result<(), AllocError>
-    ensures { OnOk result (out.new.items ≡ out.old.items ++ word_line word (algebra_text algebra)) }
+fn put_algebra_line(alloc: Global, out: &mut Vec<u8>, algebra: Algebra) -> Result<(), AllocError>
+    ensures { OnOk result (out.new.items ≡ out.old.items ++ word_line Word.Algebra (algebra_text algebra)) }
 {
-    put_word(out, word)?;
+    put_word(out, Word::Algebra)?;
     out.push(b' ')?;
     put_algebra(alloc, out, algebra)?;
     out.push(b'\n')?;
@@ -161,7 +195,7 @@ pub fn put_carried(
     ensures { OnOk result (out.new.items ≡ out.old.items ++ carried_text word c.now) }
 {
     put_number_line(out, Word::Order, u64::from(c.order))?;
-    put_algebra_line(alloc, out, Word::Algebra, c.algebra)?;
+    put_algebra_line(alloc, out, c.algebra)?;
     put_number_line(out, Word::Corank, u64::from(c.corank))?;
     put_line(out, Word::Change)?;
     put_parts(alloc, out, c.names.as_slice(), c.change.parts.as_slice())?;

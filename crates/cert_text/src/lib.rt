@@ -8,6 +8,7 @@ mod word;
 mod wording;
 mod writing;
 
+pub use carrying::opposite_sign;
 pub use report::{Answer, Carried, Limit, Named, Outside, Phase, Report, Unresolved};
 pub use word::Word;
 pub use wording::word_bytes;

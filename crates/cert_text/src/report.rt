@@ -80,7 +80,6 @@ pub enum Answer {
     Literal { column: u32 },
     NotCritical { variable: Name },
     Range { phase: Phase },
-    Field { modulus: Algebra },
     Unbuilt,
     Named(Named),
     Outside(Outside),

@@ -10,7 +10,6 @@ pub enum Word {
     Literal,
     NotCritical,
     Range,
-    Field,
     Unbuilt,
     Named,
     Outside,

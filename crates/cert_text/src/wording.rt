@@ -24,7 +24,6 @@ pub fn word_bytes(word: Word) -> &'static [u8]
         Word::Literal => b"answer literal",
         Word::NotCritical => b"answer not-critical",
         Word::Range => b"answer range",
-        Word::Field => b"answer field",
         Word::Unbuilt => b"answer unbuilt",
         Word::Named => b"answer named",
         Word::Outside => b"answer outside",

@@ -7,7 +7,7 @@ ghost use Rattle.cert_text.specs.Words.{word_text};
 ghost use Rattle.cert_text.specs.Names.{family_text, what_text};
 ghost use Rattle.cert_text.specs.Text.{line, word_line, front_text, evidence_text, named_text, outside_text, limit_text, unresolved_text, answer_text, report_text};
 
-use crate::carrying::{put_algebra_line, put_carried};
+use crate::carrying::put_carried;
 use crate::evidence::{
     put_basis_line, put_functional, put_functional_line, put_mather, put_modulus_line, put_table,
     put_units,
@@ -126,7 +126,6 @@ fn put_answer(alloc: Global, out: &mut Vec<u8>, answer: &Answer) -> Result<(), A
         Answer::Literal { column } => put_number_line(out, Word::Literal, u64::from(*column))?,
         Answer::NotCritical { variable } => put_not_critical(out, variable)?,
         Answer::Range { phase } => put_word_line(out, Word::Range, phase_bytes(*phase))?,
-        Answer::Field { modulus } => put_algebra_line(alloc, out, Word::Field, *modulus)?,
         Answer::Unbuilt => put_line(out, Word::Unbuilt)?,
         Answer::Named(named) => put_named(alloc, out, named)?,
         Answer::Outside(outside) => put_outside(alloc, out, outside)?,

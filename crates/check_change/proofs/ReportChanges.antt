@@ -117,6 +117,7 @@ unfolding value_in scalars quadratic_scalars cubic_scalars
 rational_zero algebras.Rational = refl
 rational_zero (algebras.Quadratic m1 m0) = refl
 rational_zero (algebras.Cubic m2 m1 m0) = refl
+rational_zero (algebras.Tower m2 m1 m0 d) = refl
 
 -- the coefficients of a polynomial over the algebra are those over the rational numbers
 coefficient-lifted : (n : ℕ) (a : Algebra) → ScalarLaws (scalars a) → (f : Polynomial n Rational) (b : ExpList n) → coefficient_in n (ops a) (lifted n a f) b ≡ (scalars a).rational (coefficient_in n rational_ops f b)

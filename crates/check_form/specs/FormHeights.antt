@@ -36,8 +36,17 @@ module _ {V : Type 0} (s : Scalars V) where
   -- of the numbers that the truth of a modulus line forms
   abbrev pub line_heights : Kind → List V → ModulusLine → List ℕ
   line_heights kinds.QuarticForm coefs (moduli.J q) = quartic_line_heights (s.rational (frac_value q)) coefs
+  line_heights kinds.QuarticForm coefs moduli.None = []
+  line_heights kinds.QuarticForm coefs moduli.Form = []
+  line_heights kinds.QuarticForm coefs (moduli.Value e) = []
   line_heights kinds.Triple coefs (moduli.J q) = triple_line_heights (s.rational (frac_value q)) coefs
-  line_heights _ coefs _ = []
+  line_heights kinds.Triple coefs moduli.None = []
+  line_heights kinds.Triple coefs moduli.Form = []
+  line_heights kinds.Triple coefs (moduli.Value e) = []
+  line_heights kinds.Simple coefs line = []
+  line_heights kinds.Hyperbolic coefs line = []
+  line_heights kinds.CubicForm coefs line = []
+  line_heights kinds.Exceptional coefs line = []
 
 -- of the unit values, and of the products of the printed values with the printed inverses
 abbrev pub units_heights : named_type.Named → List ℕ

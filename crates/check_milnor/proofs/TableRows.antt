@@ -14,7 +14,7 @@ use Rattle.jet_law.specs.Terms.{exp_of}
 use Rattle.jacobian_row.specs.Numbers.{number}
 use Rattle.jacobian_row.proofs.NumberLemmas.{number_injective, number_below}
 use Rattle.determinacy.proofs.FailureLemmas.{degree_below}
-use Rattle.jet_quotient.proofs.ListFacts
+use Rattle.jacobian_row.proofs.MonomialLists
 use Rattle.milnor_alg.specs.declared.quotient.TableRow.{TableRow}
 use Rattle.check_quotient.specs.Tables.{no_row, row_in}
 
@@ -37,11 +37,11 @@ module _ {E : Type 0} (n k : ℕ) (table : List (TableRow E)) (whole : map (λ r
   number_at : (i : ℕ) → i < length table → number n (exp_of n (get_or table i none).monomial) ≡ i
   number_at i h =
       ap (λ a. number n (exp_of n a)) (sym (monomial_at i h none.monomial))
-      ∙ ListFacts.number-at n (suc k) monomials list i none.monomial (let e = size in omega arith)
+      ∙ MonomialLists.number-at n (suc k) monomials list i none.monomial (let e = size in omega arith)
 
   -- a monomial of degree at most k has a row
   pub place_within : (b : ExpList n) → degree (exps n) b ≤ k → number n b < length table
-  place_within b low = let e = ListFacts.count-list n (suc k) monomials list in let h = number_below n k b low in let s = size in omega arith
+  place_within b low = let e = MonomialLists.count-list n (suc k) monomials list in let h = number_below n k b low in let s = size in omega arith
 
   monomial_is : (b : ExpList n) → degree (exps n) b ≤ k → exp_of n (get_or table (number n b) none).monomial ≡ b
   monomial_is b low = number_injective n (exp_of n (get_or table (number n b) none).monomial) b (number_at (number n b) (place_within b low))
@@ -49,7 +49,7 @@ module _ {E : Type 0} (n k : ℕ) (table : List (TableRow E)) (whole : map (λ r
   -- the row of a monomial is the one with its number
   row_is : (b : ExpList n) → degree (exps n) b ≤ k → row_in n table b ≡ get_or table (number n b) none
   row_is b low =
-      ListFacts.found_first (λ row. same (exps n) (exp_of n row.monomial) b) table (number n b) none none (place_within b low)
+      MonomialLists.found_first (λ row. same (exps n) (exp_of n row.monomial) b) table (number n b) none none (place_within b low)
       (ap (λ x. same (exps n) x b) (monomial_is b low) ∙ ExpLaws.same_refl (exps n) (exps_are n) b)
       (λ i less. ExpLaws.same-no (exps n) (exps_are n) (exp_of n (get_or table i none).monomial) b (λ e.
       let w = place_within b low in
@@ -60,7 +60,7 @@ module _ {E : Type 0} (n k : ℕ) (table : List (TableRow E)) (whole : map (λ r
   degree_at : (i : ℕ) → i < length table → degree (exps n) (exp_of n (get_or table i none).monomial) ≤ k
   degree_at i h =
       degree_below n k (exp_of n (get_or table i none).monomial)
-      (let e = number_at i h in let c = ListFacts.count-list n (suc k) monomials list in let s = size in omega arith)
+      (let e = number_at i h in let c = MonomialLists.count-list n (suc k) monomials list in let s = size in omega arith)
 
   row_self : (i : ℕ) → i < length table → row_in n table (exp_of n (get_or table i none).monomial) ≡ get_or table i none
   row_self i h =

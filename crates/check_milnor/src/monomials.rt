@@ -7,7 +7,7 @@ ghost use Rattle.check_milnor.specs.Milnor.{IsWhole};
 
 use cert_text::Named;
 use check_rows::have_same_exponents;
-use jet_quotient::monomials_to;
+use jacobian_row::monomials_to;
 use milnor_alg::TableRow;
 use mono_exp::Exp;
 use ring_law::Fault;

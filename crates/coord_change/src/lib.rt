@@ -21,4 +21,4 @@ pub use inversion::invert_to;
 pub use matrix::{matrix_product, unit_matrix};
 pub use parts::{from_parts, linear_part};
 pub use pullback::carry;
-pub use unit::identity;
+pub use unit::{identity, monomial};

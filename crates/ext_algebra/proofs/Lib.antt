@@ -1,6 +1,9 @@
 pub mod SmallSums
 pub mod Components
 pub mod CubicInverse
+pub mod TowerMoves
+pub mod TowerSums
 pub mod AlgebraParts
+pub mod AlgebraCases
 pub mod FieldInverses
 pub mod ElementTests

@@ -5,3 +5,4 @@ pub mod ExtRing
 pub mod ExtRingLaws
 pub mod ExtField
 pub mod ExtFieldLaws
+pub mod Tower

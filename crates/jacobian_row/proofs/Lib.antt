@@ -7,3 +7,4 @@ pub mod RowLemmas
 pub mod MultiplierLemmas
 pub mod Combinations
 pub mod RowFacts
+pub mod MonomialLists

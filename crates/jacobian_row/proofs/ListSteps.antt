@@ -1,5 +1,5 @@
 -- Lists that are made one element after the other.
-use Rattle.std.proofs.Common.{◌≡◌, ℕ, zero, suc, ◌+◌, ◌<◌, ◌≤◌, Bool, true, false, cond, List, [], ◌∷◌, ◌++◌, length, take, get_or, map, sum, refl, sym, ap, subst, ◌∙◌, append-nil, arith}
+use Rattle.std.proofs.Common.{◌≡◌, ℕ, zero, suc, ◌+◌, ◌<◌, ◌≤◌, Bool, true, false, cond, List, [], ◌∷◌, ◌++◌, length, take, get_or, map, sum, refl, sym, ap, subst, ◌∙◌, append_assoc, append-nil, arith}
 use Rattle.std.specs.List.{filter, All}
 use Rattle.std.proofs.lemmas.List.{take_more, map-append}
 use Rattle.mono_exp.proofs.Lists.{sum-cons}
@@ -46,3 +46,9 @@ pub same_default : {X : Type 0} (xs : List X) (i : ℕ) (d e : X) → i < length
 same_default [] i d e h = absurd (omega arith)
 same_default (x ∷ xs) zero d e h = refl
 same_default (x ∷ xs) (suc i) d e h = same_default xs i d e (omega arith)
+
+-- the images of a list and of the first elements of another, one more
+pub images_after : {X Z : Type 0} (f : X → Z) (all more : List X) (before : List Z) (i : ℕ) (x : X) → i < length more → x ≡ get_or more i x → map f all ≡ before ++ map f (take i more) → map f (all ++ (x ∷ [])) ≡ before ++ map f (take (i + 1) more)
+images_after f all more before i x within read e =
+    map-append f all (x ∷ []) ∙ ap (λ us. us ++ (f x ∷ [])) e ∙ append_assoc before (map f (take i more)) (f x ∷ [])
+    ∙ ap (λ us. before ++ us) (sym (ap (map f) (take_more more i x within ∙ ap (λ z. take i more ++ (z ∷ [])) (sym read)) ∙ map-append f (take i more) (x ∷ [])))

@@ -37,6 +37,11 @@ factor_step n factors j a d done now next within read before e =
 abbrev pub from_low : ℕ → List (List ℕ) → List (List ℕ)
 from_low low monomials = filter (λ a. leb low (sum a)) monomials
 
+-- no monomial has a degree below 0
+pub below-none : (n : ℕ) → monomials_below n 0 ≡ []
+unfolding monomials_below
+below-none n = refl
+
 pub below-split : (n d : ℕ) → monomials_below n (suc d) ≡ monomials_below n d ++ monomials_of n d
 unfolding monomials_below
 below-split n d = flat_map-append (monomials_of n) (numbers_below d) (d ∷ []) ∙ ap (λ z. monomials_below n d ++ z) (append-nil (monomials_of n d))

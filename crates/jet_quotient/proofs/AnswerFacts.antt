@@ -39,7 +39,7 @@ use Rattle.milnor_alg.specs.declared.quotient.TableRow.{TableRow}
 use Rattle.milnor_alg.specs.declared.quotient.JetQuotient.{JetQuotient}
 use Rattle.jet_quotient.specs.Answers.{number_of, begins_at, IsRowBy, AreRowsBy}
 use Rattle.jet_quotient.specs.Quotients.{row_of, basis_at, values_at, multipliers_at, IsTableRow, AreSomeMonomials, IsQuotientOf}
-use Rattle.jet_quotient.proofs.ListFacts
+use Rattle.jacobian_row.proofs.MonomialLists
 use Rattle.jet_quotient.proofs.CallFacts.{rows-count}
 use Rattle.jet_quotient.proofs.TableFacts
 use Rattle.jet_quotient.proofs.TableFacts.{Reduced}
@@ -72,20 +72,20 @@ module _ {E V : Type 0} (m : Meaning E V) (c : IsCommRing m.scalars.ops) (set : 
   free a = not (begins_at form (number_of n a))
 
   low_list : All (λ a. degree (exps n) (exp_of n a) ≤ k) monomials
-  low_list i a h = degree_below n k (exp_of n (get_or monomials i a)) (let e = ListFacts.number-at n (suc k) monomials made.are_monomials i a h in let f = ListFacts.count-list n (suc k) monomials made.are_monomials in omega arith)
+  low_list i a h = degree_below n k (exp_of n (get_or monomials i a)) (let e = MonomialLists.number-at n (suc k) monomials made.are_monomials i a h in let f = MonomialLists.count-list n (suc k) monomials made.are_monomials in omega arith)
 
   basis_low : All (λ a. degree (exps n) (exp_of n a) ≤ k) basis
-  basis_low = subst (All (λ a. degree (exps n) (exp_of n a) ≤ k)) (sym made.basis_is) (ListFacts.kept_all free (λ a. degree (exps n) (exp_of n a) ≤ k) monomials low_list)
+  basis_low = subst (All (λ a. degree (exps n) (exp_of n a) ≤ k)) (sym made.basis_is) (MonomialLists.kept_all free (λ a. degree (exps n) (exp_of n a) ≤ k) monomials low_list)
 
   basis_free : All (λ a. begins_at form (number_of n a) ≡ false) basis
-  basis_free i a h = go (begins_at form (number_of n (get_or basis i a))) refl (subst (All (λ a. free a ≡ true)) (sym made.basis_is) (ListFacts.kept_pass free monomials) i a h)
+  basis_free i a h = go (begins_at form (number_of n (get_or basis i a))) refl (subst (All (λ a. free a ≡ true)) (sym made.basis_is) (MonomialLists.kept_pass free monomials) i a h)
     where
       go : (b : Bool) → begins_at form (number_of n (get_or basis i a)) ≡ b → not b ≡ true → begins_at form (number_of n (get_or basis i a)) ≡ false
       go true e q = absurd (let z : false ≡ true = q in cc z)
       go false e q = e
 
   basis_rise : Pairwise (λ a b. number_of n a < number_of n b) basis
-  basis_rise = subst (Pairwise (λ a b. number_of n a < number_of n b)) (sym made.basis_is) (pairwise-filter (λ a b. number_of n a < number_of n b) free monomials (ListFacts.numbers_rise n (suc k) monomials made.are_monomials))
+  basis_rise = subst (Pairwise (λ a b. number_of n a < number_of n b)) (sym made.basis_is) (pairwise-filter (λ a b. number_of n a < number_of n b) free monomials (MonomialLists.numbers_rise n (suc k) monomials made.are_monomials))
 
   abbrev column : ℕ → ℕ
   column j = number n (basis_at n basis j)
@@ -109,12 +109,12 @@ module _ {E V : Type 0} (m : Meaning E V) (c : IsCommRing m.scalars.ops) (set : 
 
   row_is : (b : ExpList n) → degree (exps n) b ≤ k → row_of n table b ≡ get_or table (number n b) no_row
   row_is b low =
-      ListFacts.found_first (λ row. same (exps n) (exp_of n row.monomial) b) table (number n b) no_row no_row within
+      MonomialLists.found_first (λ row. same (exps n) (exp_of n row.monomial) b) table (number n b) no_row no_row within
       (ap (λ a. same (exps n) (exp_of n a) b) (row_monomial (number n b) within) ∙ ap (λ x. same (exps n) x b) (is b low none) ∙ ExpLaws.same_refl (exps n) (exps_are n) b)
       (λ i less. ExpLaws.same-no (exps n) (exps_are n) (exp_of n (get_or table i no_row).monomial) b (λ e.
       let w = within in
       let inside : i < length table = omega arith in
-      let f : number n b ≡ i = ap (number n) (sym e ∙ ap (exp_of n) (row_monomial i inside)) ∙ ListFacts.number-at n (suc k) monomials made.are_monomials i none (omega arith) in
+      let f : number n b ≡ i = ap (number n) (sym e ∙ ap (exp_of n) (row_monomial i inside)) ∙ MonomialLists.number-at n (suc k) monomials made.are_monomials i none (omega arith) in
       omega arith))
     where
       is : (b : ExpList n) → degree (exps n) b ≤ k → (a : Exp) → exp_of n (get_or monomials (number n b) a) ≡ b
@@ -131,7 +131,7 @@ module _ {E V : Type 0} (m : Meaning E V) (c : IsCommRing m.scalars.ops) (set : 
 
   -- its values are the entries of what is left
   value-is : (b : ExpList n) → degree (exps n) b ≤ k → (j : ℕ) → j < length basis → values_at m n table b j ≡ entry m (left b) (column j)
-  value-is b low j h = ap (λ vs. get_or vs j r.zero) (row_by b low).values ∙ ListFacts.get_or-images (λ (a : Exp). entry m (left b) (number_of n a)) basis j none r.zero h
+  value-is b low j h = ap (λ vs. get_or vs j r.zero) (row_by b low).values ∙ MonomialLists.get_or-images (λ (a : Exp). entry m (left b) (number_of n a)) basis j none r.zero h
 
   units : (i j : ℕ) → i < length basis → j < length basis → values_at m n table (basis_at n basis i) j ≡ sums.unit_at r i j
   units i j hi hj =
@@ -172,7 +172,7 @@ module _ {E V : Type 0} (m : Meaning E V) (c : IsCommRing m.scalars.ops) (set : 
           ∙ sym (TableFacts.begun m (left v) form (number n b) e (TableFacts.remainder m c set nontrivial g k n multiples monomials rests basis made v lv).cleared)
       go false e =
           let place = TableFacts.place_within m c set nontrivial g k n multiples monomials rests basis made b lb in
-          let found = ListFacts.kept_has free monomials (number n b) none place (ap (λ i. not (begins_at form i)) (ListFacts.number-at n (suc k) monomials made.are_monomials (number n b) none place) ∙ ap not e) in
+          let found = MonomialLists.kept_has free monomials (number n b) none place (ap (λ i. not (begins_at form i)) (MonomialLists.number-at n (suc k) monomials made.are_monomials (number n b) none place) ∙ ap not e) in
           let size = ap length made.basis_is in
           let j = found.0 in
           let within : j < length basis = (let l = found.1.0 in omega arith) in
@@ -223,9 +223,9 @@ module _ {E V : Type 0} (m : Meaning E V) (c : IsCommRing m.scalars.ops) (set : 
 
   pub basis_are : AreSomeMonomials n k basis
   basis_are = record {
-    are_in = recursion_from_All (IsMonomialIn n) basis (subst (All (IsMonomialIn n)) (sym made.basis_is) (ListFacts.kept_all free (IsMonomialIn n) monomials monomials_in));
+    are_in = recursion_from_All (IsMonomialIn n) basis (subst (All (IsMonomialIn n)) (sym made.basis_is) (MonomialLists.kept_all free (IsMonomialIn n) monomials monomials_in));
     chosen = λ e. not (begins_at form (rank_of n e));
-    list = ap (map (λ (a : Exp). exponents n a.e)) made.basis_is ∙ ListFacts.images-kept (λ e. not (begins_at form (rank_of n e))) (λ (a : Exp). exponents n a.e) monomials
+    list = ap (map (λ (a : Exp). exponents n a.e)) made.basis_is ∙ MonomialLists.images-kept (λ e. not (begins_at form (rank_of n e))) (λ (a : Exp). exponents n a.e) monomials
         ∙ ap (filter (λ e. not (begins_at form (rank_of n e)))) (made.are_monomials ∙ ap (monomials_below n) (let e : suc k ≡ k + 1 = omega arith in e));
   }
 
@@ -245,7 +245,7 @@ module _ {E V : Type 0} (m : Meaning E V) (c : IsCommRing m.scalars.ops) (set : 
       let within = subst (λ b. AllBelow b cs) (rows-count m rows ∙ RowFacts.rows_length m n (count_to n k) k made.partials multiples rows made.are_rows) rem.rest.within in
       record {
         monomial = subst (IsMonomialIn n) (sym q.monomial) (monomials_in i none inside);
-        values = sym (ListFacts.length-images m.value (get_or table i row).values) ∙ ap length q.values ∙ ListFacts.length-images (λ (b : Exp). entry m (get_or rests i nothing).left (number_of n b)) basis;
+        values = sym (MonomialLists.length-images m.value (get_or table i row).values) ∙ ap length q.values ∙ MonomialLists.length-images (λ (b : Exp). entry m (get_or rests i nothing).left (number_of n b)) basis;
         elems = q.elems;
         multipliers = q.multipliers.count;
         jets = recursion_from_All (IsJetOf m n k) (get_or table i row).multipliers (λ j f l. subst (IsJetOf m n k) (sym (q.multipliers.each j f l))
@@ -282,6 +282,6 @@ answer_from m c set nontrivial g k n e multiples monomials rests q made count by
 -- the monomials of the list have degree at most k
 pub degrees_low : (n k : ℕ) (ms : List Exp) → map (λ a. exponents n a.e) ms ≡ monomials_below n (suc k) → All (λ a. IsIn n a.e) ms → All (λ a. sum a.e ≤ k) ms
 degrees_low n k ms list unused i a h =
-    let low = degree_below n k (exp_of n (get_or ms i a)) (let e = ListFacts.number-at n (suc k) ms list i a h in let f = ListFacts.count-list n (suc k) ms list in omega arith) in
+    let low = degree_below n k (exp_of n (get_or ms i a)) (let e = MonomialLists.number-at n (suc k) ms list i a h in let f = MonomialLists.count-list n (suc k) ms list in omega arith) in
     let d = degree-exp_of n (get_or ms i a) (unused i a h) in
     omega arith

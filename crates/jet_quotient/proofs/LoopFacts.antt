@@ -1,10 +1,9 @@
 -- Lists that are made one element after the other.
-use Rattle.std.proofs.Common.{◌≡◌, ℕ, zero, suc, ◌+◌, ◌<◌, Bool, true, false, ◌||◌, eqb, List, [], ◌∷◌, ◌++◌, length, take, get_or, map, refl, sym, ap, ap₂, subst, ◌∙◌, append_assoc, arith}
+use Rattle.std.proofs.Common.{◌≡◌, ℕ, zero, suc, ◌+◌, ◌<◌, Bool, true, false, ◌||◌, eqb, List, [], ◌∷◌, ◌++◌, length, take, get_or, map, refl, sym, ap, ap₂, subst, ◌∙◌, arith}
 use Rattle.std.specs.List.{AllByRecursion}
 use Rattle.std.proofs.lemmas.List.{take_more, map-append}
 use Rattle.ring_theory.specs.Scalars.{Meaning}
 use Rattle.mono_exp.specs.declared.exponent.Exp.{Exp}
-use Rattle.mono_exp.specs.Exponents.{monomials_below}
 use Rattle.lin_row.specs.Lines.{lead_of}
 use Rattle.lin_row.specs.declared.row.Row.{Row}
 use Rattle.lin_row.specs.declared.row.Remainder.{Remainder}
@@ -37,20 +36,11 @@ pub map-self : {X : Type 0} (xs : List X) → map (λ x. x) xs ≡ xs
 map-self [] = refl
 map-self (x ∷ xs) = ap (λ ys. x ∷ ys) (map-self xs)
 
-pub below-none : (n : ℕ) → monomials_below n 0 ≡ []
-unfolding monomials_below
-below-none n = refl
-
 -- a list of images, one more
 pub images_more : {X Y Z : Type 0} (f : X → Z) (g : Y → Z) (xs : List X) (ys : List Y) (i : ℕ) (x : X) (y : Y) → i < length ys → y ≡ get_or ys i y → map f xs ≡ map g (take i ys) → f x ≡ g y → map f (xs ++ (x ∷ [])) ≡ map g (take (i + 1) ys)
 images_more f g xs ys i x y within read before here =
     map-append f xs (x ∷ []) ∙ ap₂ (λ us z. us ++ (z ∷ [])) before here
     ∙ sym (ap (map g) (take_more ys i y within ∙ ap (λ z. take i ys ++ (z ∷ [])) (sym read)) ∙ map-append g (take i ys) (y ∷ []))
-
-pub images_after : {X Z : Type 0} (f : X → Z) (all more : List X) (before : List Z) (i : ℕ) (x : X) → i < length more → x ≡ get_or more i x → map f all ≡ before ++ map f (take i more) → map f (all ++ (x ∷ [])) ≡ before ++ map f (take (i + 1) more)
-images_after f all more before i x within read e =
-    map-append f all (x ∷ []) ∙ ap (λ us. us ++ (f x ∷ [])) e ∙ append_assoc before (map f (take i more)) (f x ∷ [])
-    ∙ ap (λ us. before ++ us) (sym (ap (map f) (take_more more i x within ∙ ap (λ z. take i more ++ (z ∷ [])) (sym read)) ∙ map-append f (take i more) (x ∷ [])))
 
 pub recursion_push : {X : Type 0} (P : X → Type 0) (xs : List X) (x : X) → AllByRecursion P xs → P x → AllByRecursion P (xs ++ (x ∷ []))
 recursion_push P [] x a p = (p, tt)

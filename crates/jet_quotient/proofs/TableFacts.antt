@@ -35,7 +35,7 @@ use Rattle.jacobian_row.proofs.RowFacts.{monomial-exponents, variables_within}
 use Rattle.jacobian_row.proofs.Combinations
 use Rattle.determinacy.proofs.FailureLemmas.{low_or_high}
 use Rattle.jet_quotient.specs.Answers.{begins_at, free_of}
-use Rattle.jet_quotient.proofs.ListFacts
+use Rattle.jacobian_row.proofs.MonomialLists
 use Rattle.jet_quotient.proofs.ReductionFacts
 use Rattle.jet_quotient.proofs.ReductionFacts.{IsSpanned}
 
@@ -112,10 +112,10 @@ module _ {E V : Type 0} (m : Meaning E V) (c : IsCommRing m.scalars.ops) (set : 
 
   -- ---- the monomial with its number
   pub place_within : (b : ExpList n) → degree (exps n) b ≤ k → number n b < length monomials
-  place_within b low = let e = ListFacts.count-list n (suc k) monomials made.are_monomials in let h = number_below n k b low in omega arith
+  place_within b low = let e = MonomialLists.count-list n (suc k) monomials made.are_monomials in let h = number_below n k b low in omega arith
 
   pub monomial_is : (b : ExpList n) → degree (exps n) b ≤ k → (a : Exp) → exp_of n (get_or monomials (number n b) a) ≡ b
-  monomial_is b low a = number_injective n (exp_of n (get_or monomials (number n b) a)) b (ListFacts.number-at n (suc k) monomials made.are_monomials (number n b) a (place_within b low))
+  monomial_is b low a = number_injective n (exp_of n (get_or monomials (number n b) a)) b (MonomialLists.number-at n (suc k) monomials made.are_monomials (number n b) a (place_within b low))
 
   pub remainder : (b : ExpList n) → degree (exps n) b ≤ k → IsRemainder m given lines (get_or targets (number n b) (record { entries = [] })).entries (rest b)
   remainder b low = rest_at m given lines targets rests made.are_rests (number n b) (record { entries = [] }) (record { left = []; coefficients = [] })

@@ -5,9 +5,9 @@ ghost use Rattle.ring_law.specs.Refusals.{OnFault};
 ghost use Rattle.jet_poly.specs.Jets.{IsJet, polynomial_of};
 ghost use Rattle.jet_quotient.specs.Quotients.{IsQuotientOf, IsQuotientHigh};
 
-use crate::basis::{basis_of, monomials_to};
+use crate::basis::basis_of;
 use crate::table::table_of;
-use jacobian_row::{monomial_rows, multiple_rows, multiples, partials};
+use jacobian_row::{monomial_rows, monomials_to, multiple_rows, multiples, partials};
 use jet_poly::JetOf;
 use lin_row::reduce_all;
 use milnor_alg::JetQuotient;

@@ -6,4 +6,3 @@ mod basis;
 mod table;
 
 pub use algebra::quotient;
-pub use basis::monomials_to;

@@ -3,3 +3,4 @@ pub mod PowerLemmas
 pub mod Monomials
 pub mod Tables
 pub mod Multiples
+pub mod KeptLemmas

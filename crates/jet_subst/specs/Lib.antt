@@ -1,3 +1,4 @@
 pub mod Powers
 pub mod Substitutions
 pub mod Parts
+pub mod KeptPowers

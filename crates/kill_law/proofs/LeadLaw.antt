@@ -1,19 +1,18 @@
 -- Each lead is the sum of its cofactors times the partial derivatives of the form, plus its tail: from the test of the lead times its divisors.
-use Rattle.std.proofs.Common.{◌≡◌, ℕ, zero, suc, ℤ, pos, ◌+◌, ◌<◌, ◌≤◌, ◌+ℤ◌, ◌*ℤ◌, neg_ℤ, Bool, true, false, IsTrue, cond, List, [], ◌∷◌, ◌++◌, map, flat_map, get_or, length, refl, sym, ap, ap₂, subst, ◌∙◌, arith}
-use Rattle.std.specs.Prelude.{zip, Contains, nat_le}
-use Rattle.std.specs.List.{list_all}
+use Rattle.std.proofs.Common.{◌≡◌, ℕ, zero, suc, ℤ, pos, ◌<◌, ◌≤◌, ◌+ℤ◌, ◌*ℤ◌, neg_ℤ, Bool, true, false, cond, List, [], ◌∷◌, ◌++◌, map, get_or, length, refl, sym, ap, ap₂, subst, ◌∙◌, arith}
+use Rattle.std.specs.Prelude.{zip, Contains}
 use Rattle.std.proofs.lemmas.List.Elements.{Contains-append_left, Contains-append_right}
 use Rattle.std.proofs.lemmas.List.Sums.{AllPass-from_list_all}
 use Rattle.ring_theory.specs.Ring.{RingOps, IsCommRing}
 use Rattle.ring_theory.specs.Rational.{rational}
-use Rattle.ring_theory.specs.Scalars.{Scalars, ScalarLaws, sum_of}
+use Rattle.ring_theory.specs.Scalars.{Scalars, ScalarLaws}
 use Rattle.ring_theory.proofs.RationalLaws.{rational_is, add_is, mul_is, unique}
 use Rattle.ring_theory.proofs.IntegerLaws.{int_laws}
 use Rattle.ring_theory.proofs.RingReify.{by_ring, reify}
-use Rattle.poly_law.specs.Sums.{power, multiple, sum_to, total}
+use Rattle.poly_law.specs.Sums.{power, multiple, total}
 use Rattle.poly_law.specs.Exps.{same}
 use Rattle.poly_law.specs.ExpList.{ExpList, exps}
-use Rattle.poly_law.specs.Poly.{Terms, coefficient, times, scale, derivative, combination, Same, term, poly_ops}
+use Rattle.poly_law.specs.Poly.{coefficient, times, scale, derivative, combination, term}
 use Rattle.poly_law.specs.Polynomials.{Polynomial}
 use Rattle.poly_law.proofs.ExpLists.{exps_are}
 use Rattle.poly_law.proofs.Sums
@@ -21,7 +20,6 @@ use Rattle.poly_law.proofs.Pair
 use Rattle.poly_law.proofs.PolyRing
 use Rattle.poly_law.proofs.Order
 use Rattle.poly_law.proofs.Linear
-use Rattle.mono_exp.specs.Exponents.{numbers_below}
 use Rattle.jet_law.specs.Canonical.{monomial_in}
 use Rattle.ring_formula.specs.Formulas.{multiplied, summand_value, formula_value}
 use Rattle.kill_law.specs.declared.lead.Product.{Product}
@@ -31,8 +29,8 @@ use Rattle.kill_law.specs.declared.lead.Entry.{Entry}
 use Rattle.kill_law.specs.declared.lead.Lead.{Lead}
 use Rattle.kill_law.specs.declared.part.Part.{Part}
 use Rattle.kill_law.specs.Table.{row}
-use Rattle.kill_law.specs.Kill.{cofactor, tail_of, summand_of, summands_of, divisor_value, entry_value, polynomial}
-use Rattle.kill_law.specs.Leads.{entries_of, HasInvertibleDivisors, form_of, IsLeadOf, LeadsAreRight}
+use Rattle.kill_law.specs.Kill.{cofactor, tail_of, summand_of, divisor_value, polynomial}
+use Rattle.kill_law.specs.Leads.{HasInvertibleDivisors, IsLeadOf, LeadsAreRight}
 use Rattle.kill_law.proofs.LeadEquations.{Term, Letters, AreWhole, letter_value, entries_times, with_exponents, entry_times}
 use Rattle.kill_law.proofs.LeadEquations as eq
 use Rattle.kill_law.proofs.LeadTests.{term_of, one, terms_of, divisors_of, cleared, cleared_lead, form_terms, all_hold, at_most_3}

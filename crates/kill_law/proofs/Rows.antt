@@ -1,5 +1,5 @@
 -- Worked kill moves over the rational numbers, by computation. The expected moves are found by hand from the printed leads.
-use Rattle.std.proofs.Common.{◌≡◌, ℕ, ℤ, pos, negsuc, List, [], ◌∷◌, map, refl}
+use Rattle.std.proofs.Common.{◌≡◌, ℕ, pos, negsuc, List, [], ◌∷◌, map, refl}
 use Rattle.ring_theory.specs.Gcd.{gcd}
 use Rattle.ring_theory.specs.Rational.{Rational, rational, rational_zero, rational_add, rational_mul, rational_neg, rational_inv}
 use Rattle.ring_theory.specs.Height.{most, product_height, inverse_height, rational_scalars}

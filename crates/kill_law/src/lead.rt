@@ -21,12 +21,21 @@ pub struct Entry {
     pub monomial: [u8; 3],
 }
 
-/// A lead of a form: its monomial is the sum of its cofactors times the partial derivatives of the
-/// form, plus its tail. The cofactor of each variable has at most two entries, the tail has one at
-/// most.
+/// What a partial derivative is multiplied by: zero, an entry, or the sum of two.
+#[derive(Clone, Copy, Debug)]
+pub enum Cofactor {
+    Zero,
+    One(Entry),
+    Two(Entry, Entry),
+}
+
+/// A lead of a form: its monomial is the sum of the cofactors x, y and z times the partial
+/// derivatives of the form in these variables, plus the tail, if there is one.
 #[derive(Clone, Copy, Debug)]
 pub struct Lead {
     pub monomial: [u8; 3],
-    pub cofactors: [[Option<Entry>; 2]; 3],
+    pub x: Cofactor,
+    pub y: Cofactor,
+    pub z: Cofactor,
     pub tail: Option<Entry>,
 }

@@ -96,7 +96,7 @@ unfolding value_in
 lifted_values a [] all = refl
 lifted_values a (e ∷ es) all =
     let here = all 0 e (omega arith) in
-    ap₂ (λ (v : Value a) vs. v ∷ vs) (rational_value a e (frac_value e.c0) refl here.past.0 here.past.1) (lifted_values a es (λ k d h. all (suc k) d (omega arith)))
+    ap₂ (λ (v : Value a) vs. v ∷ vs) (rational_value a e (frac_value e.c0) (record { c0 = refl; c1 = here.past.0; c2 = here.past.1; c3 = here.past.2; c4 = here.past.3; c5 = here.past.4 })) (lifted_values a es (λ k d h. all (suc k) d (omega arith)))
 
 module _ (a : Algebra) (es : List (Ext Frac)) (rational_elements : All (IsElement algebra.Rational) es) (j : Frac) where
   abbrev qs : List Rational

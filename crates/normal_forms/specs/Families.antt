@@ -139,7 +139,26 @@ abbrev pub has_numbers : Family → Bool
 has_numbers (families.A m) = true
 has_numbers (families.D m) = true
 has_numbers (families.T p q r) = true
-has_numbers _ = false
+has_numbers families.E6 = false
+has_numbers families.E7 = false
+has_numbers families.E8 = false
+has_numbers families.P8 = false
+has_numbers families.X9 = false
+has_numbers families.J10 = false
+has_numbers families.E12 = false
+has_numbers families.E13 = false
+has_numbers families.E14 = false
+has_numbers families.Z11 = false
+has_numbers families.Z12 = false
+has_numbers families.Z13 = false
+has_numbers families.W12 = false
+has_numbers families.W13 = false
+has_numbers families.Q10 = false
+has_numbers families.Q11 = false
+has_numbers families.Q12 = false
+has_numbers families.S11 = false
+has_numbers families.S12 = false
+has_numbers families.U12 = false
 
 -- how the unit values and the modulus come from the coefficients: simple families, the T series, P8, X9, J10, the exceptional families
 abbrev pub kind_of : Family → Kind

@@ -63,7 +63,6 @@ kind_of : (limit : ℕ) (line : List ℕ) (a : Answer) → IsRightAnswer IsManyV
 kind_of limit line (answers.Syntax column what) h p = no_line column what refl h
 kind_of limit line (answers.Literal column) h p = large column refl h
 kind_of limit line (answers.NotCritical name) h p = linear name refl h
-kind_of limit line (answers.Field algebra) h p = absurd p
 kind_of limit line answers.Unbuilt h p = many refl h
 kind_of limit line (answers.Named n) h p = one p.line p.one_variable (by_name n refl)
 kind_of limit line (answers.Outside n) h p = absurd p

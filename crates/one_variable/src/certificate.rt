@@ -9,13 +9,18 @@ ghost use Rattle.std.specs.Prelude.{◌≡◌, IfOk};
 
 use crate::piece::{empty_jet, single_term};
 use determinacy::{MatherRow, MatherTest, mather};
-use ext_algebra::{Ext, RationalAlgebra};
+use ext_algebra::{Algebra, AlgebraField, Ext};
 use jet_poly::Jet;
 use jet_quotient::quotient;
 use milnor_alg::JetQuotient;
 use ring_law::{Fault, Frac};
 use sqlite_items::Items;
 use std::alloc::{AllocError, Global};
+
+// The rational numbers.
+const RATIONAL: AlgebraField = AlgebraField {
+    algebra: Algebra::Rational,
+};
 
 // The residual part of `c*u1^m`: in `c*u1^2` the variable is a square variable.
 fn residual_part(alloc: Global, m: u8, c: Frac) -> Result<Jet<Ext<Frac>>, AllocError>
@@ -36,7 +41,7 @@ pub fn mather_rows(alloc: Global, m: u8, c: Frac) -> Result<Items<MatherRow<Ext<
     ensures range { OnFault result (IsFormHigh phases.Mather m (frac_value c)) }
 {
     let g = residual_part(alloc, m, c)?;
-    match mather(alloc, &RationalAlgebra, &g, m)? {
+    match mather(alloc, &RATIONAL, &g, m)? {
         MatherTest::Holds(rows) => Ok(rows),
         MatherTest::Fails { .. } => unreachable!(),
     }
@@ -51,5 +56,5 @@ pub fn milnor_algebra(alloc: Global, m: u8, c: Frac) -> Result<JetQuotient<Ext<F
     ensures range { OnFault result (IsFormHigh phases.Milnor m (frac_value c)) }
 {
     let g = residual_part(alloc, m, c)?;
-    quotient(alloc, &RationalAlgebra, &g, m)
+    quotient(alloc, &RATIONAL, &g, m)
 }

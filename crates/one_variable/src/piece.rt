@@ -47,10 +47,14 @@ pub fn inverse_of(c: Frac) -> Frac
 pub fn rational_element(q: Frac) -> Ext<Frac>
     ensures { result ≡ rational q }
 {
+    let zero = whole_number(0);
     Ext {
         c0: q,
-        c1: whole_number(0),
-        c2: whole_number(0),
+        c1: zero,
+        c2: zero,
+        c3: zero,
+        c4: zero,
+        c5: zero,
     }
 }
 

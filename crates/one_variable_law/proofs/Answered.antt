@@ -113,7 +113,7 @@ apart e valid unit = step (int_eq e.c0.num (pos 0)) refl
   where
     step : (b : Bool) → int_eq e.c0.num (pos 0) ≡ b → not (is_zero_element e) ≡ true
     step true q = absurd (unit (zero_value e.c0 valid.c0 ((Decides-int_eq e.c0.num (pos 0)).0 q)))
-    step false q = ap (λ b. not (b && (is_zero_frac e.c1 && is_zero_frac e.c2))) q
+    step false q = ap (λ b. not (b && (is_zero_frac e.c1 && (is_zero_frac e.c2 && (is_zero_frac e.c3 && (is_zero_frac e.c4 && is_zero_frac e.c5)))))) q
 
 module _ (n k : ℕ) where
   -- a term of a jet passes the test of a report

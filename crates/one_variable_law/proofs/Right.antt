@@ -290,7 +290,6 @@ module _ (bytes : List ℕ) (limit : ℕ) (low_limit : 3 ≤ limit) (high_limit 
     answer_good (answers.Syntax column what) h = absurd h
     answer_good (answers.Literal column) h = absurd h
     answer_good (answers.NotCritical variable) h = absurd h
-    answer_good (answers.Field algebra) h = absurd h
     answer_good answers.Unbuilt h = absurd h
     answer_good (answers.Outside r) h = absurd h
     answer_good (answers.Limit r) h = absurd h

@@ -29,8 +29,8 @@ pub element_valid : (f : Frac) → is_frac f ≡ true → is_element algebras.Ra
 unfolding is_element
 element_valid f h =
     let zero : is_frac (whole (pos 0)) ≡ true = number_valid 0 (omega arith) in
-    and_both (is_frac f) (is_frac (whole (pos 0)) && (is_frac (whole (pos 0)) && (true && true))) h
-    (and_both (is_frac (whole (pos 0))) (is_frac (whole (pos 0)) && (true && true)) zero (and_both (is_frac (whole (pos 0))) true zero refl))
+    let five = and_both _ _ zero (and_both _ _ zero (and_both _ _ zero (and_both _ _ zero (and_both (is_frac (whole (pos 0))) true zero refl)))) in
+    and_both (is_frac f) _ h five
 
 not_equal : (f : Frac) → f.num ≢ pos 0 → int_eq f.num (pos 0) ≡ false
 not_equal f h = by_test (int_eq f.num (pos 0)) refl
@@ -41,7 +41,7 @@ not_equal f h = by_test (int_eq f.num (pos 0)) refl
 
 -- an element that is not 0
 pub element_apart : (f : Frac) → f.num ≢ pos 0 → not (is_zero_element (reports.rational f)) ≡ true
-element_apart f h = ap (λ b. not (b && (true && true))) (not_equal f h)
+element_apart f h = ap (λ b. not (b && true)) (not_equal f h)
 
 -- q x^e as a jet
 pub single_valid : (order e : ℕ) (q : Frac) → e ≤ order → is_frac q ≡ true → q.num ≢ pos 0 → IsJetOf 1 order algebras.Rational (single order q e)

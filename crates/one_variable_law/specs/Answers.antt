@@ -63,7 +63,6 @@ IsNamedAnswer name m c (answers.Range phase) = IsFormHigh phase m (frac_value c)
 IsNamedAnswer name m c (answers.Syntax column what) = ⊥
 IsNamedAnswer name m c (answers.Literal column) = ⊥
 IsNamedAnswer name m c (answers.NotCritical variable) = ⊥
-IsNamedAnswer name m c (answers.Field algebra) = ⊥
 IsNamedAnswer name m c answers.Unbuilt = ⊥
 IsNamedAnswer name m c (answers.Outside r) = ⊥
 IsNamedAnswer name m c (answers.Limit r) = ⊥

@@ -23,7 +23,7 @@ use Rattle.report_law.specs.Valid.{IsValid, NamedItem, LimitItem, OutsideItem}
 
 -- n / d
 abbrev pub element : ℤ → ℕ → Ext Frac
-element n d = let zero : Frac = record { num = pos 0; den = pos 1 } in record { c0 = record { num = n; den = pos d }; c1 = zero; c2 = zero }
+element n d = let zero : Frac = record { num = pos 0; den = pos 1 } in record { c0 = record { num = n; den = pos d }; c1 = zero; c2 = zero; c3 = zero; c4 = zero; c5 = zero }
 
 -- u1^e
 abbrev pub u1_to : ℕ → Exp

@@ -117,7 +117,6 @@ IsPlannedAnswer limit bytes (answers.Syntax column what) = Unit {0}
 IsPlannedAnswer limit bytes (answers.Literal column) = Unit {0}
 IsPlannedAnswer limit bytes (answers.NotCritical variable) = Unit {0}
 IsPlannedAnswer limit bytes answers.Unbuilt = Unit {0}
-IsPlannedAnswer limit bytes (answers.Field algebra) = ⊥
 IsPlannedAnswer limit bytes (answers.Outside r) = ⊥
 IsPlannedAnswer limit bytes (answers.Unresolved r) = ⊥
 

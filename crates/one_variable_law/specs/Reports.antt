@@ -16,7 +16,7 @@ whole n = record { num = n; den = pos 1 }
 
 -- a fraction as an element of an algebra
 abbrev pub rational : Frac → Ext Frac
-rational q = record { c0 = q; c1 = whole (pos 0); c2 = whole (pos 0) }
+rational q = let zero = whole (pos 0) in record { c0 = q; c1 = zero; c2 = zero; c3 = zero; c4 = zero; c5 = zero }
 
 -- u1^e
 abbrev pub power : ℕ → Exp

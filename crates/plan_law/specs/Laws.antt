@@ -2,7 +2,7 @@
 use Rattle.std.specs.Prelude.{◌≡◌, ℕ}
 use Rattle.ring_theory.specs.Rational.{Rational}
 use Rattle.poly_law.specs.Polynomials.{Polynomial}
-use Rattle.move_law.specs.Algebras.{HasField}
+use Rattle.ext_algebra.specs.Algebra.{IsIrreducible}
 use Rattle.plan_law.specs.Outcomes.{Outcome, carried}
 use Rattle.plan_law.specs.Plan.{HasOutcome}
 
@@ -10,6 +10,6 @@ use Rattle.plan_law.specs.Plan.{HasOutcome}
 abbrev pub PlansHaveOneOutcome : Type 0
 PlansHaveOneOutcome = (n : ℕ) (germ : Polynomial n Rational) (last : ℕ) (x y : Outcome n) → HasOutcome n germ last x → HasOutcome n germ last y → x ≡ y
 
--- the modulus of the algebra of an outcome has no rational root
+-- the modulus in t of the algebra of an outcome has no rational root, and over a tower d is no square
 abbrev pub PlansAreOverFields : Type 0
-PlansAreOverFields = (n : ℕ) (germ : Polynomial n Rational) (last : ℕ) (outcome : Outcome n) → HasOutcome n germ last outcome → HasField (carried outcome).algebra
+PlansAreOverFields = (n : ℕ) (germ : Polynomial n Rational) (last : ℕ) (outcome : Outcome n) → HasOutcome n germ last outcome → IsIrreducible (carried outcome).algebra

@@ -7,7 +7,8 @@ pub fn plans_have_one_outcome()
     ensures { PlansHaveOneOutcome }
 {}
 
-/// The modulus of the algebra of an outcome has no rational root, so the algebra is a field.
+/// The modulus in t of the algebra of an outcome has no rational root, and over a tower d is the
+/// square of no fraction, so the algebra is a field.
 pub fn plans_are_over_fields()
     ensures { PlansAreOverFields }
 {}

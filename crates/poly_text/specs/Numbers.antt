@@ -1,7 +1,7 @@
 -- The text of fractions, of elements of an algebra, and of sums.
-use Rattle.std.specs.Prelude.{ℕ, ◌+◌, ℤ, pos, negsuc, Bool, ◌&&◌, List, [], ◌∷◌, ◌++◌, codes, ◌==◌, if◌then◌else◌}
+use Rattle.std.specs.Prelude.{ℕ, ℤ, pos, negsuc, Bool, not, ◌&&◌, List, [], ◌∷◌, ◌++◌, codes, ◌==◌, if◌then◌else◌}
 use Rattle.std.specs.Fmt.{signed_decimal}
-use Rattle.std.specs.List.{flat_map}
+use Rattle.std.specs.List.{filter, flat_map, zip}
 use Rattle.std.specs.Ordering.{int_eq}
 use Rattle.ring_law.specs.declared.fraction.Frac.{Frac}
 use Rattle.ext_algebra.specs.declared.algebra.Ext.{Ext}
@@ -35,37 +35,52 @@ abbrev pub signed_text : List ℕ → List ℕ
 signed_text [] = 43 ∷ []
 signed_text (b ∷ bs) = if b == 45 then b ∷ bs else 43 ∷ b ∷ bs
 
--- a component of an element as a piece of a sum: no piece for 0
-abbrev pub component : Frac → List ℕ → List (List ℕ)
-component q body = if is_zero_fraction q then [] else product_text q body ∷ []
+-- a piece of a sum: a number, and what stands behind it
+abbrev pub Piece : Type 0
+Piece = Frac × List ℕ
 
--- c0, c1*t and c2*t^2, those that are not 0, each with its sign before it
+-- a piece with its sign before it
+abbrev pub piece_text : Piece → List ℕ
+piece_text p = signed_text (product_text p.0 p.1)
+
+-- the same where 0 is no piece
+abbrev pub component_text : Piece → List ℕ
+component_text p = if is_zero_fraction p.0 then [] else piece_text p
+
+-- the pieces whose numbers are not 0
+abbrev pub without_zeros : List Piece → List Piece
+without_zeros ps = filter (λ p. not (is_zero_fraction p.0)) ps
+
+-- the numbers c0 to c5 of c0 + c1*t + c2*t^2 + c3*s + c4*s*t + c5*s*t^2
+abbrev pub numbers : Ext Frac → List Frac
+numbers e = e.c0 ∷ e.c1 ∷ e.c2 ∷ e.c3 ∷ e.c4 ∷ e.c5 ∷ []
+
+-- what stands behind them
+abbrev pub letters : List (List ℕ)
+letters = [] ∷ codes "*t" ∷ codes "*t^2" ∷ codes "*s" ∷ codes "*s*t" ∷ codes "*s*t^2" ∷ []
+
+-- the components of an element: its numbers with their letters
+abbrev pub components : Ext Frac → List Piece
+components e = zip (numbers e) letters
+
+-- those that are not 0, each with its sign before it
 unfoldable pub components_text : Ext Frac → List ℕ
-components_text e = flat_map signed_text (component e.c0 []) ++ flat_map signed_text (component e.c1 (codes "*t")) ++ flat_map signed_text (component e.c2 (codes "*t^2"))
+components_text e = flat_map component_text (components e)
 
 -- the sum of signed pieces: the first without its plus, and `0` where there is none
 abbrev pub without_plus : List ℕ → List ℕ
 without_plus [] = 48 ∷ []
 without_plus (b ∷ bs) = if b == 43 then bs else b ∷ bs
 
--- the sum of c0, c1*t and c2*t^2 in this order, without those that are 0
+-- the sum of the components in their order, without those that are 0
 unfoldable pub element_text : Ext Frac → List ℕ
 element_text e = without_plus (components_text e)
 
-abbrev pub one_unless_zero : Frac → ℕ
-one_unless_zero q = if is_zero_fraction q then 0 else 1
+-- a sum of pieces with this text before a body that begins with a star: it stands in parentheses where it is not one piece
+abbrev pub sum_before : List Piece → List ℕ → List ℕ → List ℕ
+sum_before (p ∷ []) text body = product_text p.0 (p.1 ++ body)
+sum_before ps text body = 40 ∷ text ++ 41 ∷ body
 
--- how many components are not 0
-abbrev pub component_count_of : Ext Frac → ℕ
-component_count_of e = one_unless_zero e.c0 + one_unless_zero e.c1 + one_unless_zero e.c2
-
--- c1 and c2 are 0
-abbrev pub is_rational_of : Ext Frac → Bool
-is_rational_of e = is_zero_fraction e.c1 && is_zero_fraction e.c2
-
--- an element before a body that begins with a star; more than one component stand in parentheses
+-- an element before a body that begins with a star
 unfoldable pub scaled_text : Ext Frac → List ℕ → List ℕ
-scaled_text e body =
-    if is_rational_of e then product_text e.c0 body
-    else (if component_count_of e == 1 then element_text e ++ body
-    else 40 ∷ element_text e ++ 41 ∷ body)
+scaled_text e body = sum_before (without_zeros (components e)) (element_text e) body

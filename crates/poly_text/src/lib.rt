@@ -10,8 +10,8 @@ mod what;
 pub use name::Name;
 pub use naming::{new_names, put_name};
 pub use number::{
-    is_number, put_component, put_components, put_element, put_fraction, put_integer, put_number,
-    put_product, put_scaled, put_signed, put_sum,
+    is_number, only_component, put_component, put_components, put_element, put_fraction,
+    put_integer, put_number, put_product, put_scaled, put_signed, put_sum,
 };
 pub use polynomial::{is_unit_monomial, put_monomial, put_polynomial, write_poly};
 pub use what::What;

@@ -1,9 +1,9 @@
 //! The text of numbers, fractions and elements, and of sums of signed pieces.
 
-ghost use Rattle.std.specs.Prelude.{◌≡◌, ◌++◌, OnOk, decimal};
+ghost use Rattle.std.specs.Prelude.{◌≡◌, ◌++◌, ◌∷◌, [], map, OnOk, IfSome, None, decimal};
 ghost use Rattle.std.specs.Fmt.{signed_decimal};
 ghost use Rattle.std.specs.List.{flat_map};
-ghost use Rattle.poly_text.specs.Numbers.{fraction_text, product_text, signed_text, component, components_text, without_plus, element_text, one_unless_zero, component_count_of, is_rational_of, scaled_text, is_whole};
+ghost use Rattle.poly_text.specs.Numbers.{fraction_text, product_text, signed_text, component_text, components, components_text, without_plus, without_zeros, element_text, scaled_text, is_whole, is_zero_fraction, Piece};
 
 use ext_algebra::Ext;
 use itoa::Buffer;
@@ -15,6 +15,13 @@ pub fn is_number(n: i128, other: i128) -> bool
     ensures { result ≡ is_whole n other }
 {
     n == other
+}
+
+// The fraction is 0.
+fn is_zero(q: Frac) -> bool
+    ensures { result ≡ is_zero_fraction q }
+{
+    is_number(q.num, 0)
 }
 
 /// Appends the digits of a number.
@@ -92,16 +99,16 @@ pub fn put_sum(out: &mut Vec<u8>, pieces: &[u8]) -> Result<(), AllocError>
     Ok(())
 }
 
-/// Appends a component of an element to the pieces of a sum, unless it is 0.
+/// Appends a number before a body to the pieces of a sum, unless it is 0.
 pub fn put_component(
     alloc: Global,
     pieces: &mut Vec<u8>,
     q: Frac,
     body: &[u8],
 ) -> Result<(), AllocError>
-    ensures { OnOk result (pieces.new.items ≡ pieces.old.items ++ flat_map signed_text (component q body.now)) }
+    ensures { OnOk result (pieces.new.items ≡ pieces.old.items ++ component_text (q, body.now)) }
 {
-    if !is_number(q.num, 0) {
+    if !is_zero(q) {
         let mut piece = Vec::new(alloc);
         put_product(&mut piece, q, body)?;
         put_signed(pieces, &piece)?;
@@ -109,15 +116,44 @@ pub fn put_component(
     Ok(())
 }
 
+/// Appends numbers, each before a body, to the pieces of a sum, without those that are 0.
+pub fn put_components(
+    alloc: Global,
+    pieces: &mut Vec<u8>,
+    components: &[(Frac, &[u8])],
+) -> Result<(), AllocError>
+    ensures { OnOk result (pieces.new.items ≡ pieces.old.items ++ flat_map (λ p. component_text (p.0, p.1.now)) components.now) }
+{
+    for (q, body) in components {
+        put_component(alloc, pieces, *q, body)?;
+    }
+    Ok(())
+}
+
+// The components of an element: its numbers, each before its letters.
+fn components_of(e: Ext<Frac>) -> [(Frac, &'static [u8]); 6]
+    ensures { map (λ p. (p.0, p.1.now)) result ≡ components e }
+{
+    [
+        (e.c0, b""),
+        (e.c1, b"*t"),
+        (e.c2, b"*t^2"),
+        (e.c3, b"*s"),
+        (e.c4, b"*s*t"),
+        (e.c5, b"*s*t^2"),
+    ]
+}
+
 /// Appends the components of an element to the pieces of a sum.
 #[tactic(auto, unfolding(crate::specs::Numbers::components_text))]
-pub fn put_components(alloc: Global, pieces: &mut Vec<u8>, e: Ext<Frac>) -> Result<(), AllocError>
+pub fn put_element_pieces(
+    alloc: Global,
+    pieces: &mut Vec<u8>,
+    e: Ext<Frac>,
+) -> Result<(), AllocError>
     ensures { OnOk result (pieces.new.items ≡ pieces.old.items ++ components_text e) }
 {
-    put_component(alloc, pieces, e.c0, b"")?;
-    put_component(alloc, pieces, e.c1, b"*t")?;
-    put_component(alloc, pieces, e.c2, b"*t^2")?;
-    Ok(())
+    put_components(alloc, pieces, &components_of(e))
 }
 
 /// Appends an element.
@@ -126,29 +162,25 @@ pub fn put_element(alloc: Global, out: &mut Vec<u8>, e: Ext<Frac>) -> Result<(),
     ensures { OnOk result (out.new.items ≡ out.old.items ++ element_text e) }
 {
     let mut pieces = Vec::new(alloc);
-    put_components(alloc, &mut pieces, e)?;
+    put_element_pieces(alloc, &mut pieces, e)?;
     put_sum(out, &pieces)
 }
 
-// 1 unless the component is 0.
-fn component_number(q: Frac) -> u8
-    ensures { result ≡ one_unless_zero q }
+/// The only component that is not 0, with its letters; `None` where there is none, or more.
+pub fn only_component(e: Ext<Frac>) -> Option<(Frac, &'static [u8])>
+    ensures some { IfSome result (λ p. without_zeros (components e) ≡ (p.0, p.1.now) ∷ []) }
+    ensures none { result ≡ None → (p : Piece) → without_zeros (components e) ≡ p ∷ [] → ⊥ }
 {
-    if is_number(q.num, 0) { 0 } else { 1 }
-}
-
-// How many components are not 0.
-fn component_count(e: Ext<Frac>) -> u8
-    ensures { result ≡ component_count_of e }
-{
-    component_number(e.c0) + component_number(e.c1) + component_number(e.c2)
-}
-
-// A fraction stands for the element.
-fn is_rational(e: Ext<Frac>) -> bool
-    ensures { result ≡ is_rational_of e }
-{
-    is_number(e.c1.num, 0) && is_number(e.c2.num, 0)
+    let mut only = None;
+    for (q, letters) in &components_of(e) {
+        if !is_zero(*q) {
+            if only.is_some() {
+                return None;
+            }
+            only = Some((*q, *letters));
+        }
+    }
+    only
 }
 
 /// Appends an element before a body that begins with `*`.
@@ -161,16 +193,18 @@ pub fn put_scaled(
 ) -> Result<(), AllocError>
     ensures { OnOk result (out.new.items ≡ out.old.items ++ scaled_text e body.now) }
 {
-    if is_rational(e) {
-        put_product(out, e.c0, body)?;
-    } else if component_count(e) == 1 {
-        put_element(alloc, out, e)?;
-        out.extend_from_slice(body)?;
-    } else {
-        out.push(b'(')?;
-        put_element(alloc, out, e)?;
-        out.push(b')')?;
-        out.extend_from_slice(body)?;
+    match only_component(e) {
+        Some((q, letters)) => {
+            let mut behind = Vec::new(alloc);
+            behind.extend_from_slice(letters)?;
+            behind.extend_from_slice(body)?;
+            put_product(out, q, &behind)
+        }
+        None => {
+            out.push(b'(')?;
+            put_element(alloc, out, e)?;
+            out.push(b')')?;
+            out.extend_from_slice(body)
+        }
     }
-    Ok(())
 }

@@ -5,7 +5,7 @@ ghost use Rattle.poly_text.specs.Polynomials.{is_one, factor_text, factors_text,
 
 use crate::name::Name;
 use crate::naming::put_name;
-use crate::number::{put_components, put_number, put_scaled, put_signed, put_sum};
+use crate::number::{put_element_pieces, put_number, put_scaled, put_signed, put_sum};
 use ext_algebra::Ext;
 use jet_poly::Jet;
 use mono_exp::Exp;
@@ -79,7 +79,7 @@ fn put_term(
 {
     let (m, coefficient) = term;
     if is_unit_monomial(m) {
-        return put_components(alloc, pieces, coefficient);
+        return put_element_pieces(alloc, pieces, coefficient);
     }
     let mut body = Vec::new(alloc);
     put_factors(&mut body, names, &m.e)?;

@@ -2,3 +2,4 @@ mod Constants
 mod LowTerms
 mod Rationals
 mod RowLemmas
+mod TermParts

@@ -10,8 +10,8 @@ use crate::jets::put_jets;
 use crate::scalars::{Over, put_elements};
 use crate::words::{Stop, Words};
 use coord_change::{
-    Change, carry, from_parts, identity, invert_to, linear, linear_part, matrix_product, then,
-    unit_matrix,
+    Change, ChangeError, ChangeOf, carry, from_parts, identity, invert_to, linear, linear_part,
+    matrix_product, then, unit_matrix,
 };
 use ext_algebra::Ext;
 use jet_poly::{JetOf, coef};
@@ -35,6 +35,32 @@ fn have_no_constant<R: Ring>(ring: &R, n: u8, parts: &[JetOf<R>]) -> bool
     true
 }
 
+// The change of coordinates with these n parts of an order; none where a part has a constant term.
+fn change_with<F: Field>(
+    alloc: Global,
+    field: &F,
+    n: u8,
+    order: u8,
+    parts: &[JetOf<F>],
+) -> Result<Option<ChangeOf<F>>, ChangeError<F::Elem>>
+    requires ring { F.is_ring field.now }
+    requires given { 0 < n }
+    requires at_most_8_variables { n ≤ 8 }
+    requires order_at_least_1 { 1 ≤ order }
+    requires order_at_most_17 { order ≤ 17 }
+    requires count { length parts.now ≡ n }
+    requires parts { All (IsPart (F.meaning field.now) n) parts.now }
+    requires orders { All (λ p. p.order ≡ order) parts.now }
+    ensures change { IfOk result (λ o. IfSome o (IsChange (F.meaning field.now))) }
+    ensures n { IfOk result (λ o. IfSome o (λ c. c.n ≡ n)) }
+{
+    if have_no_constant(field, n, parts) {
+        let change = from_parts(alloc, field, parts)?;
+        return Ok(Some(change));
+    }
+    Ok(None)
+}
+
 // The change of coordinates whose parts the next words spell.
 fn change_of<F: Field<Elem = Ext<Frac>> + Drop>(
     alloc: Global,
@@ -48,10 +74,10 @@ fn change_of<F: Field<Elem = Ext<Frac>> + Drop>(
     ensures n { IfOk result (λ c. c.n ≡ over.now.n) }
 {
     let parts = over.parts(alloc, words, over.n)?;
-    if have_no_constant(&over.field, over.n, &parts) {
-        return Ok(from_parts(alloc, &over.field, &parts)?);
+    match change_with(alloc, &over.field, over.n, over.order, &parts)? {
+        Some(change) => Ok(change),
+        None => Err(Stop::Words),
     }
-    Err(Stop::Words)
 }
 
 // Appends the parts of a change, and the inverse of its linear part behind a semicolon.

@@ -31,6 +31,9 @@ fn constant(c0: Frac) -> Ext<Frac>
         c0,
         c1: zero,
         c2: zero,
+        c3: zero,
+        c4: zero,
+        c5: zero,
     }
 }
 
@@ -73,11 +76,7 @@ fn triple_modulus(a: Frac, b: Frac, c: Frac) -> Result<ModulusLine, Stop>
 }
 
 /// Appends the modulus line of the form of a family with given rational coefficients.
-pub(crate) fn put_modulus(
-    alloc: Global,
-    words: &mut Words,
-    out: &mut Vec<u8>,
-) -> Result<(), Stop> {
+pub(crate) fn put_modulus(alloc: Global, words: &mut Words, out: &mut Vec<u8>) -> Result<(), Stop> {
     let line = match words.next() {
         b"X9" => quartic_modulus(
             words.fraction()?,
@@ -136,7 +135,11 @@ pub(crate) fn calculate<F: Field<Elem = Ext<Frac>> + Drop>(
         b"coefficients" => {
             let family = read_family(words.next()).ok_or(Stop::Words)?;
             let f = over.jet(alloc, words)?;
-            put_elements(alloc, out, &sum_coefficients(alloc, &over.field, family, &f)?)
+            put_elements(
+                alloc,
+                out,
+                &sum_coefficients(alloc, &over.field, family, &f)?,
+            )
         }
         b"pattern" => {
             let pattern = read_pattern(words.next()).ok_or(Stop::Words)?;
@@ -153,7 +156,11 @@ pub(crate) fn calculate<F: Field<Elem = Ext<Frac>> + Drop>(
         b"quartic" => {
             let q = over.elements(alloc, words, 5)?;
             let (i, j) = quartic_invariants(&over.field, &q)?;
-            put_elements(alloc, out, &[i, j, quartic_discriminant_of(&over.field, &q)?])
+            put_elements(
+                alloc,
+                out,
+                &[i, j, quartic_discriminant_of(&over.field, &q)?],
+            )
         }
         b"triple" => {
             let q = over.elements(alloc, words, 3)?;

@@ -48,7 +48,10 @@ fn put_test(alloc: Global, out: &mut Vec<u8>, f: &Jet<Frac>) -> Result<(), Stop>
             out.extend_from_slice(b"holds ")?;
             Ok(put_number(out, rows.len() as u64)?)
         }
-        MatherTest::Fails { functional: _, at: _ } => Ok(out.extend_from_slice(b"fails")?),
+        MatherTest::Fails {
+            functional: _,
+            at: _,
+        } => Ok(out.extend_from_slice(b"fails")?),
     }
 }
 

@@ -116,7 +116,11 @@ pub(crate) fn calculate<F: Field<Elem = Ext<Frac>> + Drop>(
     match command {
         b"powers" => {
             let (most, p) = (words.small()?, over.jet(alloc, words)?);
-            put_jets(alloc, out, &powers(alloc, &over.field, &p, most, over.order)?)
+            put_jets(
+                alloc,
+                out,
+                &powers(alloc, &over.field, &p, most, over.order)?,
+            )
         }
         b"coefficient" => {
             let f = over.jet(alloc, words)?;

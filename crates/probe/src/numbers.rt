@@ -20,7 +20,7 @@ fn put(out: &mut Vec<u8>, found: Option<Frac>) -> Result<(), Stop> {
 
 // The least whole root of t^3 + a*t^2 + b*t + c, for numbers below 2^120.
 fn least(a: i128, b: i128, c: i128) -> Result<Option<Frac>, Stop> {
-    let limit = 1 << 120;
+    let limit = 0x100_0000_0000_0000_0000_0000_0000_0000;
     if a.unsigned_abs() < limit && b.unsigned_abs() < limit && c.unsigned_abs() < limit {
         return Ok(least_root(a, b, c).map(|num| Frac { num, den: 1 }));
     }
@@ -58,7 +58,11 @@ pub(crate) fn calculate(
         ),
         b"least-root" => put(
             out,
-            least(words.number(alloc)?, words.number(alloc)?, words.number(alloc)?)?,
+            least(
+                words.number(alloc)?,
+                words.number(alloc)?,
+                words.number(alloc)?,
+            )?,
         ),
         _ => Err(Stop::Words),
     }

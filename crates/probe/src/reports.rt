@@ -1,6 +1,7 @@
 //! What is read of lines, and reports that are read, written again and checked. Where a report stands in one line, a bar stands for each newline.
 
-ghost use Rattle.std.specs.Prelude.{◌≡◌, length};
+ghost use Rattle.ring_law.specs.Fraction.{rational_meaning};
+ghost use Rattle.jet_poly.specs.Jets.{IsJet};
 
 use crate::words::{Stop, Words};
 use cert_check::check;
@@ -36,7 +37,9 @@ fn put_names(out: &mut Vec<u8>, names: &[Name]) -> Result<(), AllocError> {
 }
 
 // Appends the names, the order and the polynomial of a germ.
-fn put_germ(alloc: Global, out: &mut Vec<u8>, germ: &Germ) -> Result<(), Stop> {
+fn put_germ(alloc: Global, out: &mut Vec<u8>, germ: &Germ) -> Result<(), Stop>
+    requires { IsJet rational_meaning germ.now.jet }
+{
     let names = germ.names.as_slice();
     out.extend_from_slice(b"germ ")?;
     put_names(out, names)?;
@@ -48,12 +51,7 @@ fn put_germ(alloc: Global, out: &mut Vec<u8>, germ: &Germ) -> Result<(), Stop> {
 }
 
 // Appends a word, a column, and what stands there.
-fn put_column(
-    out: &mut Vec<u8>,
-    word: &[u8],
-    column: u32,
-    what: &[u8],
-) -> Result<(), AllocError> {
+fn put_column(out: &mut Vec<u8>, word: &[u8], column: u32, what: &[u8]) -> Result<(), AllocError> {
     out.extend_from_slice(word)?;
     put_number(out, u64::from(column))?;
     out.extend_from_slice(what)
@@ -101,12 +99,7 @@ fn repeated(alloc: Global, words: &mut Words) -> Result<Vec<u8>, Stop> {
 }
 
 // Appends the text of the report that is read from a text, or what the checker finds of the text.
-fn put_report(
-    alloc: Global,
-    text: &[u8],
-    is_check: bool,
-    out: &mut Vec<u8>,
-) -> Result<(), Stop> {
+fn put_report(alloc: Global, text: &[u8], is_check: bool, out: &mut Vec<u8>) -> Result<(), Stop> {
     match read_report(alloc, text) {
         Ok(report) => {
             if is_check {
@@ -116,9 +109,7 @@ fn put_report(
             let text = write_report(alloc, &report)?;
             Ok(out.extend_from_slice(&replaced(alloc, &text, b'\n', b'|')?)?)
         }
-        Err(ReadError::BadText { offset }) => {
-            Ok(put_finding(out, Finding::BadText { offset })?)
-        }
+        Err(ReadError::BadText { offset }) => { Ok(put_finding(out, Finding::BadText { offset })?) }
         Err(ReadError::NoMemory) => Err(Stop::NoMemory),
     }
 }
@@ -139,7 +130,12 @@ pub(crate) fn calculate(
             let limit = words.small()?;
             put_read(alloc, limit, &repeated(alloc, words)?, out)
         }
-        b"copy" => put_report(alloc, &replaced(alloc, words.rest, b'|', b'\n')?, false, out),
+        b"copy" => put_report(
+            alloc,
+            &replaced(alloc, words.rest, b'|', b'\n')?,
+            false,
+            out,
+        ),
         b"check" => put_report(alloc, &replaced(alloc, words.rest, b'|', b'\n')?, true, out),
         _ => Err(Stop::Words),
     }

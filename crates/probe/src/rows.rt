@@ -73,11 +73,7 @@ fn rows_of<F: Field<Elem = Ext<Frac>> + Drop>(
 }
 
 // Appends entries, each with its column.
-fn put_entries(
-    alloc: Global,
-    out: &mut Vec<u8>,
-    entries: &[(u32, Ext<Frac>)],
-) -> Result<(), Stop> {
+fn put_entries(alloc: Global, out: &mut Vec<u8>, entries: &[(u32, Ext<Frac>)]) -> Result<(), Stop> {
     for (column, x) in entries {
         out.push(b' ')?;
         put_number(out, u64::from(*column))?;

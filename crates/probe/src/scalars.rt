@@ -1,24 +1,53 @@
 //! Elements of an algebra, and jets over it, from the words of a line.
 
-ghost use Rattle.std.specs.Prelude.{◌≡◌, ◌≤◌, All, IfOk, IsTrue, length};
+ghost use Rattle.std.specs.Prelude.{◌≡◌, ◌≤◌, All, IfOk, IfSome, length};
+ghost use Rattle.ext_algebra.specs.ExtRing.{AllValid};
 ghost use Rattle.ext_algebra.specs.Algebra.{IsAlgebra, IsElement};
 ghost use Rattle.ext_algebra.specs.declared.algebra.Ext.{Ext as ExtOf};
 ghost use Rattle.ring_law.specs.declared.fraction.Frac.{Frac as FracOf};
 ghost use Rattle.mono_exp.specs.Exponents.{IsIn};
 ghost use Rattle.jet_poly.specs.Jets.{IsJet};
 ghost use Rattle.jet_subst.specs.Parts.{IsPart};
+ghost use Rattle.cert_text.specs.WellFormed.{IsJetOf};
 ghost use Rattle.probe.specs.Over.{IsOver};
 
 use crate::words::{Stop, Words};
 use crate::{changes, forms, jets, rows, texts};
-use ext_algebra::{Algebra, AlgebraRing, Ext, ExtError, ExtField, ExtRing, RationalAlgebra};
+use ext_algebra::{
+    Algebra, AlgebraField, AlgebraRing, Ext, ExtError, ExtField, ExtRing, TowerField, Triple,
+};
 use jet_poly::{Jet, from_terms};
 use mono_exp::Exp;
-use poly_text::{put_element, put_fraction, write_poly};
+use poly_text::put_element;
 use ring_law::{Field, Frac, Ring};
 use small_frac::Rationals;
 use std::alloc::Global;
 use text_reader::{read_algebra, read_element, read_polynomial};
+
+// The element of an algebra that the next word spells.
+fn element_of(algebra: Algebra, words: &mut Words) -> Result<Ext<Frac>, Stop>
+    ensures { IfOk result (IsElement algebra) }
+{
+    match read_element(algebra, words.next()) {
+        Some(e) => Ok(e),
+        None => Err(Stop::Words),
+    }
+}
+
+// The polynomial in n variables over an algebra that the next word spells.
+fn polynomial_of(
+    alloc: Global,
+    algebra: Algebra,
+    words: &mut Words,
+    n: u8,
+) -> Result<Jet<Ext<Frac>>, Stop>
+    ensures { IfOk result (IsJetOf n 17 algebra) }
+{
+    match read_polynomial(alloc, algebra, n, 17, words.next())? {
+        Some(f) => Ok(f),
+        None => Err(Stop::Words),
+    }
+}
 
 /// A field whose elements are those of an algebra, and how many variables and which order a line is about.
 #[derive(Drop)]
@@ -35,7 +64,7 @@ impl<F: Field<Elem = Ext<Frac>> + Drop> Over<F> {
         requires over { IsOver (F.is_ring self.now.field) (F.meaning self.now.field) self.now.algebra self.now.n self.now.order }
         ensures elem { IfOk result (F.meaning self.now.field).is_elem }
     {
-        read_element(self.algebra, words.next()).ok_or(Stop::Words)
+        element_of(self.algebra, words)
     }
 
     /// The elements that the next words spell.
@@ -51,7 +80,8 @@ impl<F: Field<Elem = Ext<Frac>> + Drop> Over<F> {
     {
         let mut elements = Vec::new(alloc);
         for _i in 0..count {
-            elements.push(self.element(words)?)?;
+            let e = self.element(words)?;
+            elements.push(e)?;
         }
         Ok(elements)
     }
@@ -68,14 +98,12 @@ impl<F: Field<Elem = Ext<Frac>> + Drop> Over<F> {
         ensures elems { IfOk result (λ v. All (λ t. (F.meaning self.now.field).is_elem t.1) v.items) }
         ensures variables { IfOk result (λ v. All (λ t. IsIn n t.0.e) v.items) }
     {
-        let mut terms = Vec::new(alloc);
+        let mut all = Vec::new(alloc);
         for _i in 0..count {
-            match read_polynomial(alloc, self.algebra, n, 17, words.next())? {
-                Some(f) => terms.extend_from_slice(f.terms())?,
-                None => return Err(Stop::Words),
-            }
+            let f = polynomial_of(alloc, self.algebra, words, n)?;
+            all.extend_from_slice(f.terms())?;
         }
-        Ok(terms)
+        Ok(all)
     }
 
     /// The jet in n variables of the polynomial that the next word spells.
@@ -120,7 +148,8 @@ impl<F: Field<Elem = Ext<Frac>> + Drop> Over<F> {
     {
         let mut parts = Vec::new(alloc);
         for _i in 0..self.n {
-            parts.push(self.jet_in(alloc, words, n)?)?;
+            let p = self.jet_in(alloc, words, n)?;
+            parts.push(p)?;
         }
         Ok(parts)
     }
@@ -178,9 +207,23 @@ fn put_product(
     requires { IsAlgebra algebra }
 {
     let ring = AlgebraRing { algebra };
-    let a = read_element(algebra, words.next()).ok_or(Stop::Words)?;
-    let b = read_element(algebra, words.next()).ok_or(Stop::Words)?;
+    let a = element_of(algebra, words)?;
+    let b = element_of(algebra, words)?;
     Ok(put_element(alloc, out, ring.mul(a, b)?)?)
+}
+
+// The ring of a quadratic or cubic algebra.
+fn ring_of(algebra: Algebra) -> Option<ExtRing<Rationals>>
+    requires { IsAlgebra algebra }
+    ensures ring { IfSome result (λ r. ⟦<ExtRing<Rationals> as Ring>⟧.is_ring r) }
+    ensures elements { IfSome result (λ r. (e : ExtOf FracOf) → IsElement algebra e → (⟦<ExtRing<Rationals> as Ring>⟧.meaning r).is_elem e) }
+{
+    match algebra {
+        Algebra::Rational => None,
+        Algebra::Quadratic { m1, m0 } => Some(ExtRing::quadratic(Rationals, m1, m0)),
+        Algebra::Cubic { m2, m1, m0 } => Some(ExtRing::cubic(Rationals, m2, m1, m0)),
+        Algebra::Tower { .. } => None,
+    }
 }
 
 // Appends the conjugate of an element of a quadratic algebra.
@@ -192,15 +235,24 @@ fn put_conjugate(
 ) -> Result<(), Stop>
     requires { IsAlgebra algebra }
 {
-    let Algebra::Quadratic { m1, m0 } = algebra else {
-        return Err(Stop::Words);
-    };
-    let ring = ExtRing::quadratic(Rationals, m1, m0);
-    let a = read_element(algebra, words.next()).ok_or(Stop::Words)?;
-    Ok(put_element(alloc, out, ring.conjugate(a)?)?)
+    let a = element_of(algebra, words)?;
+    match ring_of(algebra) {
+        Some(ring) if ring.degree == 2 => Ok(put_element(alloc, out, ring.conjugate(a)?)?),
+        _ => Err(Stop::Words),
+    }
 }
 
-// Appends the components of the product of two elements of the ring over a quadratic algebra with a root of `t^3 - 3`, which are read by theirs.
+// The three components that the next words spell.
+fn triple_of(algebra: Algebra, words: &mut Words) -> Result<Triple<Ext<Frac>>, Stop>
+    ensures { IfOk result (λ t. IsElement algebra t.c0 × IsElement algebra t.c1 × IsElement algebra t.c2) }
+{
+    let c0 = element_of(algebra, words)?;
+    let c1 = element_of(algebra, words)?;
+    let c2 = element_of(algebra, words)?;
+    Ok(Triple { c0, c1, c2 })
+}
+
+// Appends the components of the product of two elements of the ring over an algebra with a root of `t^3 - 3`, which are read by theirs.
 fn put_tower(
     alloc: Global,
     algebra: Algebra,
@@ -213,33 +265,33 @@ fn put_tower(
     let (zero, one) = (base.zero(), base.one());
     let minus_three = base.neg(base.add(one, base.add(one, one)?)?);
     let ring = ExtRing::cubic(base, zero, zero, minus_three);
-    let mut factors = [ring.zero(); 2];
-    for factor in &mut factors {
-        *factor = Ext {
-            c0: read_element(algebra, words.next()).ok_or(Stop::Words)?,
-            c1: read_element(algebra, words.next()).ok_or(Stop::Words)?,
-            c2: read_element(algebra, words.next()).ok_or(Stop::Words)?,
-        };
-    }
-    let Ext { c0, c1, c2 } = ring.mul(factors[0], factors[1])?;
-    put_elements(alloc, out, &[c0, c1, c2])
+    let a = ring.element(triple_of(algebra, words)?);
+    let b = ring.element(triple_of(algebra, words)?);
+    let product = ring.mul(a, b)?;
+    put_elements(alloc, out, &[product.c0, product.c1, product.c2])
 }
 
-// The field of a quadratic or cubic algebra.
-fn field_of(algebra: Algebra) -> Result<ExtField, Stop>
+// The field of an algebra.
+fn field_of(algebra: Algebra) -> Result<AlgebraField, Stop>
     requires { IsAlgebra algebra }
-    ensures field { IfOk result (λ f. ⟦<ExtField as Ring>⟧.is_ring f) }
-    ensures elements { IfOk result (λ f. (e : ExtOf FracOf) → IsElement algebra e → (⟦<ExtField as Ring>⟧.meaning f).is_elem e) }
+    ensures field { IfOk result (λ f. ⟦<AlgebraField as Ring>⟧.is_ring f) }
+    ensures algebra { IfOk result (λ f. f.algebra ≡ algebra) }
 {
-    let ring = match algebra {
-        Algebra::Rational => return Err(Stop::Words),
-        Algebra::Quadratic { m1, m0 } => ExtRing::quadratic(Rationals, m1, m0),
-        Algebra::Cubic { m2, m1, m0 } => ExtRing::cubic(Rationals, m2, m1, m0),
+    let refusal = match algebra {
+        Algebra::Rational => None,
+        Algebra::Quadratic { m1, m0 } => {
+            ExtField::new(ExtRing::quadratic(Rationals, m1, m0)).err()
+        }
+        Algebra::Cubic { m2, m1, m0 } => {
+            ExtField::new(ExtRing::cubic(Rationals, m2, m1, m0)).err()
+        }
+        Algebra::Tower { m2, m1, m0, d } => TowerField::new(m2, m1, m0, d).err(),
     };
-    match ExtField::new(ring) {
-        Ok(field) => Ok(field),
-        Err(ExtError::Reducible { root }) => Err(Stop::Reducible { root }),
-        Err(ExtError::Range(_)) => Err(Stop::Range),
+    match refusal {
+        None => Ok(AlgebraField { algebra }),
+        Some(ExtError::Reducible { root }) => Err(Stop::Reducible { root }),
+        Some(ExtError::Square { root }) => Err(Stop::Square { root }),
+        Some(ExtError::Range(_)) => Err(Stop::Range),
     }
 }
 
@@ -252,28 +304,16 @@ pub(crate) fn calculate(
     out: &mut Vec<u8>,
 ) -> Result<(), Stop> {
     let algebra = read_algebra(words.next()).ok_or(Stop::Words)?;
-    if group == b"text".as_slice() {
-        return texts::calculate(alloc, command, algebra, words, out);
-    }
-    match command {
-        b"product" => return put_product(alloc, algebra, words, out),
-        b"conjugate" => return put_conjugate(alloc, algebra, words, out),
-        b"tower" => return put_tower(alloc, algebra, words, out),
+    match (group, command) {
+        (b"text", _) => return texts::calculate(alloc, command, algebra, words, out),
+        (_, b"product") => return put_product(alloc, algebra, words, out),
+        (_, b"conjugate") => return put_conjugate(alloc, algebra, words, out),
+        (_, b"tower") => return put_tower(alloc, algebra, words, out),
         _ => {}
     }
     let (n, order) = (words.small()?, words.small()?);
     if n > 8 || order > 17 {
         return Err(Stop::Words);
-    }
-    if algebra == Algebra::Rational {
-        let field = RationalAlgebra;
-        let over = Over {
-            field,
-            algebra,
-            n,
-            order,
-        };
-        return answer_over(alloc, group, command, &over, words, out);
     }
     let field = field_of(algebra)?;
     let over = Over {

@@ -44,7 +44,9 @@ pub(crate) fn calculate(
         b"elements" => read_elements(alloc, a, size, text)?.map(|es| es.len()),
         b"basis" => read_basis(alloc, n, text)?.map(|ms| ms.len()),
         b"part" => read_part(alloc, a, n, order, text)?.map(|_| 1),
-        b"mather-row" => read_mather_row(alloc, a, n, order, text)?.map(|row| row.multipliers.len()),
+        b"mather-row" => read_mather_row(alloc, a, n, order, text)?.map(|row| row
+            .multipliers
+            .len()),
         b"table-row" => read_table_row(alloc, a, n, 3, size, text)?.map(|row| row.values.len()),
         _ => match read_polynomial(alloc, a, n, order, text)? {
             Some(f) => return Ok(put_polynomial(alloc, out, &new_names(), &f)?),

@@ -11,12 +11,13 @@ use std::str::FromStr;
 use text_reader::{read_fraction, read_u8, split_at_byte};
 
 /// Why a line has no answer: its words ask for nothing that there is, nothing is what is asked for, a number is out of range, or memory ran out.
-#[derive(Clone, Copy, Debug, PartialEq, Eq)]
+#[derive(Clone, Copy)]
 pub(crate) enum Stop {
     Words,
     Nothing,
     Singular,
     Reducible { root: Frac },
+    Square { root: Frac },
     Range,
     NoMemory,
 }
@@ -73,6 +74,10 @@ impl Stop {
             Stop::Singular => out.extend_from_slice(b"singular"),
             Stop::Reducible { root } => {
                 out.extend_from_slice(b"reducible ")?;
+                put_fraction(out, root)
+            }
+            Stop::Square { root } => {
+                out.extend_from_slice(b"square ")?;
                 put_fraction(out, root)
             }
             Stop::Range => out.extend_from_slice(b"range"),

@@ -27,19 +27,21 @@ unfolding value_in scalars quadratic_scalars cubic_scalars
 lifted_value algebras.Rational q = refl
 lifted_value (algebras.Quadratic m1 m0) q = refl
 lifted_value (algebras.Cubic m2 m1 m0) q = refl
+lifted_value (algebras.Tower m2 m1 m0 d) q = refl
 
 zero_valid : IsFrac (record { num = pos 0; den = pos 1 })
 unfolding gcd
 zero_valid = (is_frac-IsFrac (record { num = pos 0; den = pos 1 })).0 refl
 
 zero_past : (a : Algebra) (q : Frac) → IsZeroPast a (lifted_element q)
-zero_past algebras.Rational q = (refl, refl)
-zero_past (algebras.Quadratic m1 m0) q = refl
-zero_past (algebras.Cubic m2 m1 m0) q = tt
+zero_past algebras.Rational q = (refl, refl, refl, refl, refl)
+zero_past (algebras.Quadratic m1 m0) q = (refl, refl, refl, refl)
+zero_past (algebras.Cubic m2 m1 m0) q = (refl, refl, refl)
+zero_past (algebras.Tower m2 m1 m0 d) q = tt
 
 -- it is valid where q is
 pub lifted_elem : (a : Algebra) (q : Frac) → IsFrac q → IsElement a (lifted_element q)
-lifted_elem a q h = record { c0 = h; c1 = zero_valid; c2 = zero_valid; past = zero_past a q }
+lifted_elem a q h = record { c0 = h; c1 = zero_valid; c2 = zero_valid; c3 = zero_valid; c4 = zero_valid; c5 = zero_valid; past = zero_past a q }
 
 -- and not 0 where q is not 0
 pub lifted_unit : (a : Algebra) (q : Frac) → frac_value q ≢ rational (pos 0) 1 → value_in a (lifted_element q) ≢ (scalars a).ops.zero
@@ -47,6 +49,7 @@ unfolding value_in scalars quadratic_scalars cubic_scalars
 lifted_unit algebras.Rational q u z = u z
 lifted_unit (algebras.Quadratic m1 m0) q u z = u (ap (λ v. v.c0) z)
 lifted_unit (algebras.Cubic m2 m1 m0) q u z = u (ap (λ v. v.c0) z)
+lifted_unit (algebras.Tower m2 m1 m0 d) q u z = u (ap (λ v. v.c0.c0) z)
 
 lifted-after : (m : Exp) (f : List (Exp × Frac)) → AllAfter m f → AllAfter m (lifted_terms f)
 unfolding lifted_terms

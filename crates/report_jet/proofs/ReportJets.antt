@@ -56,6 +56,7 @@ unfolding value_in scalars quadratic_scalars cubic_scalars
 zero_is algebras.Rational = refl
 zero_is (algebras.Quadratic m1 m0) = refl
 zero_is (algebras.Cubic m2 m1 m0) = refl
+zero_is (algebras.Tower m2 m1 m0 d) = refl
 
 -- the values of a list of elements by number, and 0 past the last one
 pub get_or-values : (a : Algebra) (es : List (Ext Frac)) (i : ℕ) → get_or (map (value_in a) es) i (ops a).zero ≡ value_at a es i
@@ -68,20 +69,37 @@ get_or-values a (e ∷ es) (suc i) = get_or-values a es i
 pub is_zero_frac-zero : (f : Frac) → IsFrac f → frac_value f ≡ rational (pos 0) 1 → is_zero_frac f ≡ true
 is_zero_frac-zero f h e = (Decides-int_eq f.num (pos 0)).1 (sym (value_num f h) ∙ ap (λ q. q.num) e ∙ lowest_num (pos 0) 1 (zero-lt-suc 0) zero_lowest)
 
-three : (a b c : Bool) → a ≡ true → b ≡ true → c ≡ true → (a && (b && c)) ≡ true
-three true true c h k l = l
-three true false c h k l = absurd (true≢false (sym k))
-three false b c h k l = absurd (true≢false (sym h))
+-- the six components are 0
+record AreZero (e : Ext Frac) : Type 0 where
+  c0 : frac_value e.c0 ≡ rational (pos 0) 1
+  c1 : frac_value e.c1 ≡ rational (pos 0) 1
+  c2 : frac_value e.c2 ≡ rational (pos 0) 1
+  c3 : frac_value e.c3 ≡ rational (pos 0) 1
+  c4 : frac_value e.c4 ≡ rational (pos 0) 1
+  c5 : frac_value e.c5 ≡ rational (pos 0) 1
+
+zero_components : (a : Algebra) (e : Ext Frac) → IsElement a e → value_in a e ≡ (scalars a).ops.zero → AreZero e
+unfolding value_in scalars quadratic_scalars cubic_scalars
+zero_components algebras.Rational e h z = record { c0 = z; c1 = h.past.0; c2 = h.past.1; c3 = h.past.2; c4 = h.past.3; c5 = h.past.4 }
+zero_components (algebras.Quadratic m1 m0) e h z =
+    record { c0 = ap (λ v. v.c0) z; c1 = ap (λ v. v.c1) z; c2 = h.past.0; c3 = h.past.1; c4 = h.past.2; c5 = h.past.3 }
+zero_components (algebras.Cubic m2 m1 m0) e h z =
+    record { c0 = ap (λ v. v.c0) z; c1 = ap (λ v. v.c1) z; c2 = ap (λ v. v.c2) z; c3 = h.past.0; c4 = h.past.1; c5 = h.past.2 }
+zero_components (algebras.Tower m2 m1 m0 d) e h z =
+    record { c0 = ap (λ v. v.c0.c0) z; c1 = ap (λ v. v.c1.c0) z; c2 = ap (λ v. v.c2.c0) z; c3 = ap (λ v. v.c0.c1) z; c4 = ap (λ v. v.c1.c1) z; c5 = ap (λ v. v.c2.c1) z }
+
+both_true : (a b : Bool) → a ≡ true → b ≡ true → (a && b) ≡ true
+both_true true b h k = k
+both_true false b h k = absurd (true≢false (sym h))
 
 -- a valid element with the value 0 passes the test for zero
 pub is_zero_element-zero : (a : Algebra) (e : Ext Frac) → IsElement a e → value_in a e ≡ (scalars a).ops.zero → is_zero_element e ≡ true
-unfolding value_in scalars quadratic_scalars cubic_scalars
-is_zero_element-zero algebras.Rational e h z =
-    three (is_zero_frac e.c0) (is_zero_frac e.c1) (is_zero_frac e.c2) (is_zero_frac-zero e.c0 h.c0 z) (is_zero_frac-zero e.c1 h.c1 h.past.0) (is_zero_frac-zero e.c2 h.c2 h.past.1)
-is_zero_element-zero (algebras.Quadratic m1 m0) e h z =
-    three (is_zero_frac e.c0) (is_zero_frac e.c1) (is_zero_frac e.c2) (is_zero_frac-zero e.c0 h.c0 (ap (λ v. v.c0) z)) (is_zero_frac-zero e.c1 h.c1 (ap (λ v. v.c1) z)) (is_zero_frac-zero e.c2 h.c2 h.past)
-is_zero_element-zero (algebras.Cubic m2 m1 m0) e h z =
-    three (is_zero_frac e.c0) (is_zero_frac e.c1) (is_zero_frac e.c2) (is_zero_frac-zero e.c0 h.c0 (ap (λ v. v.c0) z)) (is_zero_frac-zero e.c1 h.c1 (ap (λ v. v.c1) z)) (is_zero_frac-zero e.c2 h.c2 (ap (λ v. v.c2) z))
+is_zero_element-zero a e h z =
+    let zero = zero_components a e h z in
+    both_true _ _ (is_zero_frac-zero e.c0 h.c0 zero.c0)
+    (both_true _ _ (is_zero_frac-zero e.c1 h.c1 zero.c1)
+    (both_true _ _ (is_zero_frac-zero e.c2 h.c2 zero.c2)
+    (both_true _ _ (is_zero_frac-zero e.c3 h.c3 zero.c3) (both_true _ _ (is_zero_frac-zero e.c4 h.c4 zero.c4) (is_zero_frac-zero e.c5 h.c5 zero.c5)))))
 
 not_both : (b : Bool) → b ≡ true → not b ≡ true → ⊥
 not_both true h k = true≢false (sym k)

@@ -24,6 +24,9 @@ pub fn lifted_element(q: Frac) -> Ext<Frac>
         c0: q,
         c1: zero,
         c2: zero,
+        c3: zero,
+        c4: zero,
+        c5: zero,
     }
 }
 

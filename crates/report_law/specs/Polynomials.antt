@@ -27,7 +27,7 @@ jet_at n a jets i = terms_in n a (slice_index_or jets i (record { n = n; order =
 
 -- the element 0
 abbrev pub zero_element : Ext Frac
-zero_element = let zero : Frac = record { num = pos 0; den = pos 1 } in record { c0 = zero; c1 = zero; c2 = zero }
+zero_element = let zero : Frac = record { num = pos 0; den = pos 1 } in record { c0 = zero; c1 = zero; c2 = zero; c3 = zero; c4 = zero; c5 = zero }
 
 -- the i-th of some elements, counted from 0, and 0 past the last one
 unfoldable pub value_at : (a : Algebra) → List (Ext Frac) → ℕ → Value a

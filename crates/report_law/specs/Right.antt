@@ -1,12 +1,6 @@
 -- Which report is right for a line and an order limit.
 use Rattle.std.specs.Prelude.{◌≡◌, ℕ, ◌≤◌, ◌<◌, IsTrue, List, length}
-use Rattle.std.specs.List.{AllZip}
-use Rattle.ring_theory.specs.Rational.{Rational, rational_ops}
-use Rattle.ring_theory.specs.Ring.{RingOps}
-use Rattle.ring_law.specs.Fraction.{frac_value}
-use Rattle.poly_law.specs.Sums.{power}
-use Rattle.ext_algebra.specs.declared.algebra.Algebra.{Algebra}
-use Rattle.ext_algebra.specs.declared.algebra.Algebra.TheVariants as algebras
+use Rattle.ext_algebra.specs.Algebra.{IsIrreducible}
 use Rattle.line_syntax.specs.Syntax.{Line, names_of}
 use Rattle.line_syntax.specs.Grammar.{Spells, has_small_literals}
 use Rattle.germ_law.specs.Germ.{IsCritical, line_limit}
@@ -22,16 +16,6 @@ use Rattle.cert_text.specs.declared.report.Report.TheVariants as reports
 use Rattle.report_law.specs.Items.{IsSyntaxRefusal, IsLiteralRefusal}
 use Rattle.report_law.specs.Valid.{IsValidAnswer}
 use Rattle.cert_text.specs.WellFormed.{IsWellFormed}
-
-abbrev q : RingOps Rational
-q = rational_ops
-
--- the modulus of the algebra has no rational root
-abbrev pub HasNoRoot : Algebra → Type 0
-HasNoRoot algebras.Rational = Unit {0}
-HasNoRoot (algebras.Quadratic m1 m0) = (x : Rational) → q.add (q.add (power q x 2) (q.mul (frac_value m1) x)) (frac_value m0) ≡ q.zero → ⊥
-HasNoRoot (algebras.Cubic m2 m1 m0) = (x : Rational)
-    → q.add (q.add (q.add (power q x 3) (q.mul (frac_value m2) (power q x 2))) (q.mul (frac_value m1) x)) (frac_value m0) ≡ q.zero → ⊥
 
 -- the line is in the grammar, with small numbers
 pub record IsRead (bytes : List ℕ) : Type 0 where
@@ -49,10 +33,10 @@ pub record IsManyVariables (bytes : List ℕ) : Type 0 where
   pub critical : IsCritical bytes line
   pub many : 1 < length (names_of line)
 
--- the order is at most the limit, and the algebra is a field
+-- the order is at most the limit, and the algebra is a field: its modulus in t has no rational root, and over a tower d is no square
 pub record IsWithin (limit : ℕ) (c : Carried) : Type 0 where
   pub order : c.order ≤ order_limit limit (length c.names)
-  pub field : HasNoRoot c.algebra
+  pub field : IsIrreducible c.algebra
 
 -- the line is in the grammar, with small numbers, and reading it up to its order limit forms a number of height at least 2^120
 pub record IsHighLine (bytes : List ℕ) (limit : ℕ) : Type 0 where
@@ -77,7 +61,6 @@ IsRightAnswer IsUnbuilt bytes limit (answers.Syntax column what) = IsSyntaxRefus
 IsRightAnswer IsUnbuilt bytes limit (answers.Literal column) = IsLiteralRefusal bytes column
 IsRightAnswer IsUnbuilt bytes limit (answers.NotCritical variable) = IsValidAnswer bytes (answers.NotCritical variable)
 IsRightAnswer IsUnbuilt bytes limit (answers.Range phase) = IsRangeOf bytes limit phase
-IsRightAnswer IsUnbuilt bytes limit (answers.Field algebra) = IsCriticalLine bytes × ¬ IsUnbuilt bytes
 IsRightAnswer IsUnbuilt bytes limit answers.Unbuilt = IsUnbuilt bytes
 IsRightAnswer IsUnbuilt bytes limit (answers.Named r) = IsValidAnswer bytes (answers.Named r) × IsWithin limit r.carried × ¬ IsUnbuilt bytes
 IsRightAnswer IsUnbuilt bytes limit (answers.Outside r) = IsValidAnswer bytes (answers.Outside r) × IsWithin limit r.carried × ¬ IsUnbuilt bytes
@@ -94,7 +77,3 @@ SaysTruth IsUnbuilt bytes limit (reports.Line held answer) = (length bytes ≤ l
 pub record IsRight (IsUnbuilt : List ℕ → Type 0) (limit : ℕ) (bytes : List ℕ) (r : Report) : Type 0 where
   pub well_formed : IsWellFormed r
   pub truthful : SaysTruth IsUnbuilt bytes limit r
-
--- reports, each right for its line, one for each line in order
-abbrev pub AreRight : (List ℕ → Type 0) → ℕ → List (List ℕ) → List Report → Type 0
-AreRight IsUnbuilt limit lines reports = AllZip (IsRight IsUnbuilt limit) lines reports

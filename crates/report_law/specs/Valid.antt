@@ -90,13 +90,12 @@ UnresolvedItem bytes l r items.Pattern = ⊥
 abbrev pub unresolved_items : List Item
 unresolved_items = items.Germ ∷ items.Shape ∷ items.Inverse ∷ items.Carry ∷ items.Mather ∷ []
 
--- all items are true of the answer to the line with these bytes; range, field and unbuilt answers have no items and are not valid
+-- all items are true of the answer to the line with these bytes; range and unbuilt answers have no items and are not valid
 abbrev pub IsValidAnswer : List ℕ → Answer → Type 0
 IsValidAnswer bytes (answers.Syntax column what) = IsSyntaxRefusal bytes column what
 IsValidAnswer bytes (answers.Literal column) = IsLiteralRefusal bytes column
 IsValidAnswer bytes (answers.NotCritical variable) = IsNotCritical bytes (name_text variable)
 IsValidAnswer bytes (answers.Range phase) = ⊥
-IsValidAnswer bytes (answers.Field algebra) = ⊥
 IsValidAnswer bytes answers.Unbuilt = ⊥
 IsValidAnswer bytes (answers.Named r) = (l : Line) × AllByRecursion (NamedItem bytes l r) named_items
 IsValidAnswer bytes (answers.Outside r) = (l : Line) × AllByRecursion (OutsideItem bytes l r) outside_items

@@ -1,6 +1,6 @@
 -- What a checker says of a text of reports.
-use Rattle.std.specs.Prelude.{◌≡◌, ℕ, ◌<◌, List, [], ◌∷◌, ◌++◌, codes, decimal, flat_map, ◌⊎◌}
-use Rattle.std.specs.List.{AllZip, AllByRecursion}
+use Rattle.std.specs.Prelude.{◌≡◌, ℕ, ◌<◌, List, [], ◌∷◌, ◌++◌, codes, decimal, ◌⊎◌}
+use Rattle.std.specs.List.{AllByRecursion}
 use Rattle.line_syntax.specs.Syntax.{Line}
 use Rattle.germ_law.specs.Germ.{IsCritical, line_limit}
 use Rattle.poly_text.specs.Polynomials.{name_text}
@@ -8,7 +8,7 @@ use Rattle.cert_text.specs.declared.report.Answer.{Answer}
 use Rattle.cert_text.specs.declared.report.Answer.TheVariants as answers
 use Rattle.cert_text.specs.declared.report.Report.{Report}
 use Rattle.cert_text.specs.declared.report.Report.TheVariants as reports
-use Rattle.cert_text.specs.Text.{report_text, line}
+use Rattle.cert_text.specs.Text.{report_text}
 use Rattle.cert_text.specs.WellFormed.{IsWellFormed}
 use Rattle.cert_text.specs.BadText.{IsBadText}
 use Rattle.report_law.specs.Items.{IsSyntaxRefusal, IsLiteralRefusal, IsNotCritical}
@@ -47,7 +47,6 @@ finding_text (findings.BadText offset) = codes "invalid text " ++ decimal offset
 -- the answer has no items
 abbrev pub IsUncheckedAnswer : Answer → Type 0
 IsUncheckedAnswer (answers.Range phase) = Unit {0}
-IsUncheckedAnswer (answers.Field algebra) = Unit {0}
 IsUncheckedAnswer answers.Unbuilt = Unit {0}
 IsUncheckedAnswer (answers.Syntax column what) = ⊥
 IsUncheckedAnswer (answers.Literal column) = ⊥
@@ -84,7 +83,6 @@ IsInvalidAnswer bytes (answers.Syntax column what) item = IsFalseRefusal (IsSynt
 IsInvalidAnswer bytes (answers.Literal column) item = IsFalseRefusal (IsLiteralRefusal bytes column) item
 IsInvalidAnswer bytes (answers.NotCritical variable) item = IsFalseRefusal (IsNotCritical bytes (name_text variable)) item
 IsInvalidAnswer bytes (answers.Range phase) item = ⊥
-IsInvalidAnswer bytes (answers.Field algebra) item = ⊥
 IsInvalidAnswer bytes answers.Unbuilt item = ⊥
 IsInvalidAnswer bytes (answers.Named r) item = IsFirstFalseOf bytes (λ l. NamedItem bytes l r) named_items item
 IsInvalidAnswer bytes (answers.Outside r) item = IsFirstFalseOf bytes (λ l. OutsideItem bytes l r) outside_items item
@@ -106,7 +104,6 @@ IsReachedIn (reports.Line bytes (answers.Syntax column what)) item = item ≡ it
 IsReachedIn (reports.Line bytes (answers.Literal column)) item = item ≡ items.Refusal
 IsReachedIn (reports.Line bytes (answers.NotCritical variable)) item = item ≡ items.Refusal
 IsReachedIn (reports.Line bytes (answers.Range phase)) item = ⊥
-IsReachedIn (reports.Line bytes (answers.Field algebra)) item = ⊥
 IsReachedIn (reports.Line bytes answers.Unbuilt) item = ⊥
 IsReachedIn (reports.Line bytes (answers.Named r)) item = IsReachedOf bytes (λ l. NamedItem bytes l r) named_items item
 IsReachedIn (reports.Line bytes (answers.Outside r)) item = IsReachedOf bytes (λ l. OutsideItem bytes l r) outside_items item
@@ -132,8 +129,3 @@ IsVerdictOn IsHigh r (verdicts.Range item) = IsReachedIn r item × IsHigh r item
 abbrev pub IsVerdict : (Report → Item → Type 0) → List ℕ → Finding → Type 0
 IsVerdict IsHigh chunk (findings.Report verdict) = (r : Report) × IsTextOf chunk r × IsVerdictOn IsHigh r verdict
 IsVerdict IsHigh chunk (findings.BadText offset) = IsBadText chunk offset
-
--- the bytes are a line for each of the chunks, in order, with its verdict
-abbrev pub IsChecked : (Report → Item → Type 0) → List (List ℕ) → List ℕ → Type 0
-IsChecked IsHigh chunks written =
-    (found : List Finding) × AllZip (IsVerdict IsHigh) chunks found × (written ≡ flat_map (λ f. line (finding_text f)) found)

@@ -14,8 +14,8 @@ use Rattle.cert_text.specs.declared.report.Answer.TheVariants as answers
 use Rattle.cert_text.specs.declared.word.Word.TheVariants as words
 use Rattle.cert_text.specs.Words.{word_text}
 use Rattle.cert_text.specs.Names.{phase_text, family_text, pattern_text}
-use Rattle.cert_text.specs.Text.{line, word_line, algebra_text, answer_text, carried_text, named_text, front_text, evidence_text, mather_lines, outside_text, limit_text, unresolved_text}
-use Rattle.cert_text.specs.WellFormed.{is_valid_name, IsWellFormedAnswer, IsWellFormedCarried, IsWellFormedLimit, IsWellFormedUnresolved, IsFamily, IsExtension}
+use Rattle.cert_text.specs.Text.{line, word_line, answer_text, carried_text, named_text, front_text, evidence_text, mather_lines, outside_text, limit_text, unresolved_text}
+use Rattle.cert_text.specs.WellFormed.{is_valid_name, IsWellFormedAnswer, IsWellFormedCarried, IsWellFormedLimit, IsWellFormedUnresolved, IsFamily}
 use Rattle.cert_law.proofs.Letters.{pattern_one}
 use Rattle.cert_law.proofs.Carrying.{word_rest}
 use Rattle.cert_law.proofs.Reporting as reporting
@@ -26,7 +26,7 @@ use Rattle.report_reader.specs.Blocks.{IsStop, IsNotAtFront}
 use Rattle.report_reader.specs.Evidence.{IsOfFamily, named_rest, units_rest, modulus_rest, milnor_rest, mather_rest, basis_rest, unresolved_rest}
 use Rattle.report_reader.specs.Answers.{IsPlaced, IsUnplaced, kind_of, IsFromKind, limit_rest}
 use Rattle.report_reader.proofs.Fronts.{line-word, line-word_line}
-use Rattle.report_reader.proofs.CleanTexts.{family_clean, pattern_clean, phase_clean, place_clean, extension_clean, name_clean}
+use Rattle.report_reader.proofs.CleanTexts.{family_clean, pattern_clean, phase_clean, place_clean, name_clean}
 use Rattle.report_reader.proofs.Stops.{IsLine, IsApart, apart_fronts, stop_here, stop_behind, stop_before, whole-line}
 use Rattle.report_reader.proofs.CarriedLines.{some_carried}
 
@@ -38,13 +38,12 @@ no_placed bytes a b d (answers.Literal column) more ok e = b column more (omega 
 no_placed bytes a b d (answers.NotCritical variable) more ok e = d variable more ok e
 no_placed bytes a b d _ more ok e = ok
 
-pub no_unplaced : (bytes : List ℕ) → IsNotAtFront IsAny (λ v. word_line words.Range (phase_text v)) bytes → IsNotAtFront IsExtension (λ v. word_line words.Field (algebra_text v)) bytes
+pub no_unplaced : (bytes : List ℕ) → IsNotAtFront IsAny (λ v. word_line words.Range (phase_text v)) bytes
     → ((more : List ℕ) → line (word_text words.Unbuilt) ++ more ≡ bytes → ⊥) → IsNotAtFront IsUnplaced answer_text bytes
 unfolding answer_text
-no_unplaced bytes a b d (answers.Range phase) more ok e = a phase more tt e
-no_unplaced bytes a b d (answers.Field algebra) more ok e = b algebra more ok e
-no_unplaced bytes a b d answers.Unbuilt more ok e = d more e
-no_unplaced bytes a b d _ more ok e = ok
+no_unplaced bytes a d (answers.Range phase) more ok e = a phase more tt e
+no_unplaced bytes a d answers.Unbuilt more ok e = d more e
+no_unplaced bytes a d _ more ok e = ok
 
 -- ---- the kind of an answer, by the first and the third letter behind `answer`
 
@@ -56,7 +55,6 @@ letters_of (answers.Syntax column what) = 29550
 letters_of (answers.Literal column) = 27764
 letters_of (answers.NotCritical variable) = 28276
 letters_of (answers.Range phase) = 29294
-letters_of (answers.Field algebra) = 26213
 letters_of answers.Unbuilt = 30050
 letters_of (answers.Named r) = 28269
 letters_of (answers.Outside r) = 28532
@@ -223,7 +221,6 @@ short_apart bytes p u (answers.Syntax column what) h k = one_line (answer_text (
 short_apart bytes p u (answers.Literal column) h k = one_line (answer_text (answers.Literal column)) bytes (line-word_line words.Literal (decimal column) (digits_lack 10 column (omega arith) (omega (arith, h)))) (λ more e. p (answers.Literal column) more h e)
 short_apart bytes p u (answers.NotCritical variable) h k = one_line (answer_text (answers.NotCritical variable)) bytes (line-word_line words.NotCritical (name_text variable) (name_clean variable h)) (λ more e. p (answers.NotCritical variable) more h e)
 short_apart bytes p u (answers.Range phase) h k = one_line (answer_text (answers.Range phase)) bytes (line-word_line words.Range (phase_text phase) (phase_clean phase tt)) (λ more e. u (answers.Range phase) more tt e)
-short_apart bytes p u (answers.Field algebra) h k = one_line (answer_text (answers.Field algebra)) bytes (line-word_line words.Field (algebra_text algebra) (extension_clean algebra h)) (λ more e. u (answers.Field algebra) more h e)
 short_apart bytes p u answers.Unbuilt h k = one_line (answer_text answers.Unbuilt) bytes (line-word words.Unbuilt) (λ more e. u answers.Unbuilt more tt e)
 short_apart bytes p u _ h k = absurd (omega (arith, k))
 
@@ -240,7 +237,6 @@ placed_is _ h = absurd h
 
 pub unplaced_is : (a : Answer) → IsUnplaced a → IsWellFormedAnswer a
 unplaced_is (answers.Range phase) h = tt
-unplaced_is (answers.Field algebra) h = h
 unplaced_is answers.Unbuilt h = tt
 unplaced_is _ h = absurd h
 

@@ -1,5 +1,5 @@
 -- The texts of values hold no newline.
-use Rattle.std.proofs.Common.{◌≡◌, ℕ, true, ltb, ◌&&◌, List, [], ◌∷◌, ◌++◌, arith, ◌≤◌}
+use Rattle.std.proofs.Common.{◌≡◌, ◌≢◌, ℕ, true, ltb, ◌&&◌, List, [], ◌∷◌, ◌++◌, arith, ◌≤◌}
 use Rattle.std.specs.Prelude.{decimal, codes, IsTrue}
 use Rattle.std.proofs.lemmas.Bool.{ltb-true}
 use Rattle.std.specs.List.{AllByRecursion}
@@ -21,13 +21,12 @@ use Rattle.cert_text.specs.declared.report.Phase.{Phase}
 use Rattle.cert_text.specs.declared.report.Phase.TheVariants as phases
 use Rattle.cert_text.specs.Names.{family_letters, family_numbers, family_text, pattern_text, phase_text, what_text}
 use Rattle.cert_text.specs.Text.{modulus_text, algebra_text}
-use Rattle.cert_text.specs.WellFormed.{has_small_numbers, is_valid_modulus, IsFamily, is_valid_name, IsExtension, IsJetOf}
-use Rattle.cert_law.proofs.Valid.{both}
+use Rattle.cert_text.specs.WellFormed.{has_small_numbers, is_valid_modulus, IsFamily, is_valid_name, IsJetOf}
+use Rattle.cert_law.proofs.Valid.{all_to, both}
 use Rattle.cert_law.specs.Fields.{Element}
 use Rattle.text_reader.specs.Reading.{IsAny}
 use Rattle.text_reader.proofs.Visible.{digits_lack, IsVisible, no_byte}
-use Rattle.text_reader.proofs.ModulusTexts.{extension_valid}
-use Rattle.text_reader.proofs.VisibleTexts.{visible-algebra, visible-element, visible-fraction, visible-jet, visible-monomial, visible-name}
+use Rattle.text_reader.proofs.VisibleTexts.{IsPrinted, printed-algebra, visible-element, visible-fraction, visible-jet, visible-monomial, visible-name}
 use Rattle.report_reader.specs.Lines.{IsClean, IsPlace, place_text}
 use Rattle.report_reader.proofs.Fronts.{clean-append}
 use Rattle.mono_exp.specs.declared.exponent.Exp.{Exp}
@@ -41,10 +40,7 @@ pub name_clean : (name : Name) → IsTrue (is_valid_name name) → IsClean (name
 name_clean name h = visible_clean (name_text name) (visible-name name h)
 
 pub algebra_clean : (a : Algebra) → IsTrue (is_algebra a) → IsClean (algebra_text a)
-algebra_clean a h = visible_clean (algebra_text a) (visible-algebra a h)
-
-pub extension_clean : (a : Algebra) → IsExtension a → IsClean (algebra_text a)
-extension_clean a h = algebra_clean a (extension_valid a h)
+algebra_clean a h = all_to IsPrinted (λ b. b ≢ 10) (λ b le e. omega (arith, le, e)) (algebra_text a) (printed-algebra a h)
 
 pub element_clean : (a : Algebra) (e : Element) → IsTrue (is_element a e) → IsClean (element_text e)
 element_clean a e h = visible_clean (element_text e) (visible-element a e h)

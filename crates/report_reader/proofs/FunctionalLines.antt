@@ -31,6 +31,7 @@ use Rattle.cert_law.specs.Unique.{IsSelfEnding}
 use Rattle.cert_law.proofs.Reporting.{functional_head, low_monomial, value_by}
 use Rattle.cert_law.proofs.Series.{functional_line}
 use Rattle.cert_law.proofs.Valid.{all_to, both}
+use Rattle.text_reader.specs.Elements.{rational_element}
 use Rattle.text_reader.specs.Reading.{IsNoText}
 use Rattle.text_reader.proofs.Visible.{digits_lack}
 use Rattle.text_reader.specs.Terms.{one_monomial}
@@ -169,7 +170,7 @@ monomial_with n r le lt =
 -- ---- values one after the other
 
 one_element : Ext Frac
-one_element = record { c0 = record { num = pos 1; den = pos 1 }; c1 = record { num = pos 0; den = pos 1 }; c2 = record { num = pos 0; den = pos 1 } }
+one_element = rational_element (record { num = pos 1; den = pos 1 })
 
 one_valid : (a : Algebra) → (is_element a one_element && not (is_zero_element one_element)) ≡ true
 unfolding is_element one_element gcd

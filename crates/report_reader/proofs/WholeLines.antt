@@ -54,7 +54,6 @@ ends_answer (answers.Syntax column what) = ends_word words.Syntax _
 ends_answer (answers.Literal column) = ends_word words.Literal _
 ends_answer (answers.NotCritical variable) = ends_word words.NotCritical _
 ends_answer (answers.Range phase) = ends_word words.Range _
-ends_answer (answers.Field algebra) = ends_word words.Field _
 ends_answer answers.Unbuilt = ends_line _
 ends_answer (answers.Named r) =
     ends_after (front_text r) (evidence_text r) (ends_rows table_text (λ row. ends_line _) _ (ends_after _ (word_line words.Table (decimal (length r.quotient.table))) (ends_word words.Table (decimal (length r.quotient.table)))) r.quotient.table)

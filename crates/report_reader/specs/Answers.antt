@@ -5,7 +5,7 @@ use Rattle.cert_text.specs.declared.report.Answer.{Answer}
 use Rattle.cert_text.specs.declared.report.Answer.TheVariants as answers
 use Rattle.cert_text.specs.declared.word.Word.TheVariants as words
 use Rattle.cert_text.specs.Text.{carried_text}
-use Rattle.cert_text.specs.WellFormed.{is_valid_name, IsExtension, IsWellFormedAnswer}
+use Rattle.cert_text.specs.WellFormed.{is_valid_name, IsWellFormedAnswer}
 use Rattle.report_reader.specs.Functional.{functional_lines}
 
 -- about a place in the line
@@ -18,7 +18,6 @@ IsPlaced _ = ⊥
 -- without place and without jet
 abbrev pub IsUnplaced : Answer → Type 0
 IsUnplaced (answers.Range phase) = Unit {0}
-IsUnplaced (answers.Field algebra) = IsExtension algebra
 IsUnplaced answers.Unbuilt = Unit {0}
 IsUnplaced _ = ⊥
 

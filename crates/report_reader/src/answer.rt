@@ -11,9 +11,7 @@ use crate::halt::Halt;
 use crate::limit::read_limit;
 use crate::line::{take_line, take_number};
 use crate::named::{read_named, read_unresolved};
-use crate::value::{
-    take_family, take_modulus, take_pattern, take_phase, take_place, take_variable,
-};
+use crate::value::{take_family, take_pattern, take_phase, take_place, take_variable};
 use cert_text::{Answer, Outside, Word};
 use std::alloc::Global;
 
@@ -48,12 +46,9 @@ fn take_unplaced(bytes: &[u8]) -> Option<(Answer, &[u8])>
 {
     match take_phase(bytes) {
         Some((phase, rest)) => Some((Answer::Range { phase }, rest)),
-        None => match take_modulus(bytes) {
-            Some((modulus, rest)) => Some((Answer::Field { modulus }, rest)),
-            None => match take_line(Word::Unbuilt, bytes) {
-                Some(rest) => Some((Answer::Unbuilt, rest)),
-                None => None,
-            },
+        None => match take_line(Word::Unbuilt, bytes) {
+            Some(rest) => Some((Answer::Unbuilt, rest)),
+            None => None,
         },
     }
 }

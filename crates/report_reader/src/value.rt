@@ -5,7 +5,7 @@ ghost use Rattle.ext_algebra.specs.Algebra.{is_algebra};
 ghost use Rattle.poly_text.specs.Polynomials.{name_text};
 ghost use Rattle.cert_text.specs.Names.{family_text, pattern_text, phase_text};
 ghost use Rattle.cert_text.specs.Text.{word_line, algebra_text, modulus_text};
-ghost use Rattle.cert_text.specs.WellFormed.{is_valid_name, is_valid_modulus, IsFamily, IsExtension};
+ghost use Rattle.cert_text.specs.WellFormed.{is_valid_name, is_valid_modulus, IsFamily};
 ghost use Rattle.text_reader.specs.Reading.{IsAny};
 ghost use Rattle.report_reader.specs.Blocks.{IsAtFront, IsNotAtFront};
 ghost use Rattle.report_reader.specs.Lines.{IsPlace, place_text};
@@ -17,7 +17,7 @@ use ext_algebra::Algebra;
 use normal_forms::{Family, ModulusLine, Pattern};
 use poly_text::{Name, What};
 use text_reader::{
-    read_algebra, read_family, read_modulus, read_modulus_line, read_name, read_pattern, read_phase,
+    read_algebra, read_family, read_modulus_line, read_name, read_pattern, read_phase,
 };
 
 /// The algebra in the line at the front.
@@ -28,20 +28,6 @@ pub(crate) fn take_algebra(bytes: &[u8]) -> Option<(Algebra, &[u8])>
     match take_word_line(Word::Algebra, bytes) {
         None => None,
         Some((text, rest)) => match read_algebra(text) {
-            None => None,
-            Some(value) => Some((value, rest)),
-        },
-    }
-}
-
-/// The modulus in the line at the front of an answer for want of roots.
-pub(crate) fn take_modulus(bytes: &[u8]) -> Option<(Algebra, &[u8])>
-    ensures some { IfSome result (IsAtFront IsExtension (λ v. word_line Word.Field (algebra_text v)) bytes.now) }
-    ensures none { result ≡ None → IsNotAtFront IsExtension (λ v. word_line Word.Field (algebra_text v)) bytes.now }
-{
-    match take_word_line(Word::Field, bytes) {
-        None => None,
-        Some((text, rest)) => match read_modulus(text) {
             None => None,
             Some(value) => Some((value, rest)),
         },

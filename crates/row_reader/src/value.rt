@@ -16,6 +16,7 @@ use mono_exp::Exp;
 use ring_law::{Frac, NoMemory};
 use sqlite_items::Items;
 use std::alloc::Global;
+use text_reader::is_zero;
 
 /// A value and its inverse, with a space between them.
 pub fn read_unit(a: Algebra, bytes: &[u8]) -> Option<(Ext<Frac>, Ext<Frac>)>
@@ -127,13 +128,6 @@ pub fn read_basis(alloc: Global, corank: u8, bytes: &[u8]) -> Result<Option<Item
         None => Ok(None),
         Some(rest) => read_monomials(alloc, corank, rest),
     }
-}
-
-// All three components are 0.
-fn is_zero(e: Ext<Frac>) -> bool
-    ensures { result ≡ is_zero_element e }
-{
-    e.c0.num == 0 && e.c1.num == 0 && e.c2.num == 0
 }
 
 /// A monomial in the first `corank` variables, of degree at most 17, and the value of a functional there, which is not 0.

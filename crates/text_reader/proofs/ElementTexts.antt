@@ -1,7 +1,7 @@
 -- Elements by their texts.
 use Rattle.std.proofs.Common.{◌≡◌, ℕ, ◌<◌, Bool, true, false, cond, ◌&&◌, eqb, pos, negsuc, Option, Some, None, List, [], ◌∷◌, ◌++◌, length, refl, sym, ap, ◌∙◌, subst, append_assoc, append-nil, arith, IsTrue}
 use Rattle.std.specs.Prelude.{codes, is_some}
-use Rattle.std.specs.List.{flat_map}
+use Rattle.std.specs.List.{AllByRecursion, flat_map, zip}
 use Rattle.std.specs.Borrow.{Bor}
 use Rattle.std.proofs.lemmas.Bool.{eqb-true}
 use Rattle.std.specs.Cmp.Derive.{both_true}
@@ -10,44 +10,41 @@ use Rattle.ext_algebra.specs.declared.algebra.Algebra.{Algebra}
 use Rattle.ext_algebra.specs.declared.algebra.Ext.{Ext}
 use Rattle.ext_algebra.specs.Fractions.{is_frac}
 use Rattle.ext_algebra.specs.Algebra.{is_element, is_zero_past}
-use Rattle.poly_text.specs.Numbers.{component, components_text, element_text, fraction_text, is_whole, is_zero_fraction, product_text, signed_text, without_plus}
-use Rattle.cert_law.specs.Fields.{IsSmallElement, zero_fraction}
-use Rattle.cert_law.proofs.Elements.{element_one}
-use Rattle.cert_law.proofs.Valid.{both, component_by}
-use Rattle.text_reader.specs.declared.piece.Power.TheVariants as powers
-use Rattle.text_reader.specs.Pieces.{joined, Follows, FollowsAll, AreFractions}
+use Rattle.poly_text.specs.Numbers.{component_text, components, components_text, element_text, fraction_text, is_whole, is_zero_fraction, letters, numbers, product_text, signed_text, without_plus}
+use Rattle.cert_law.specs.Fields.{IsBody, IsComponent, IsSmallElement, zero_fraction}
+use Rattle.cert_law.proofs.Elements.{element_is, element_one, letters_apart, letters_are}
+use Rattle.cert_law.proofs.Valid.{all_to, both, component_by}
+use Rattle.text_reader.specs.Pieces.{joined, AreFractions, AreTaken, AreValid, FollowsAll, IsTaken}
+use Rattle.text_reader.specs.Elements.{rational_element}
 use Rattle.text_reader.specs.Reading.{IsTextOf}
 use Rattle.text_reader.proofs.PieceTexts.{some_text, some_more}
-use Rattle.text_reader.proofs.ComponentTexts.{zero_valid, follows_nothing, follows_more}
+use Rattle.text_reader.proofs.ComponentTexts.{zero_valid, taken_more, taken_none}
 
-abbrev pub part0 : Frac → List ℕ
-part0 q = flat_map signed_text (component q [])
-
-abbrev pub part1 : Frac → List ℕ
-part1 q = flat_map signed_text (component q (codes "*t"))
-
-abbrev pub part2 : Frac → List ℕ
-part2 q = flat_map signed_text (component q (codes "*t^2"))
-
-pub parts_are : (e : Ext Frac) (rest : List ℕ) → components_text e ++ rest ≡ part0 e.c0 ++ (part1 e.c1 ++ (part2 e.c2 ++ rest))
+pub components_text_is : (e : Ext Frac) → components_text e ≡ flat_map component_text (components e)
 unfolding components_text
-parts_are e rest = simp append_assoc
+components_text_is e = refl
 
--- what stands behind the first component, and behind the second
-pub behind_first : (e : Ext Frac) (rest : List ℕ) → AreFractions e → FollowsAll rest → Follows powers.One (part1 e.c1 ++ (part2 e.c2 ++ rest))
-behind_first e rest ok follows = follows_more powers.One powers.T e.c1 (part2 e.c2 ++ rest) ok.c1 (λ h. absurd cc) (follows_more powers.One powers.Square e.c2 rest ok.c2 (λ h. absurd cc) follows.one)
+-- the six components one after the other
+pub element_taken : (e : Ext Frac) (s0 s1 s2 s3 s4 s5 s6 : List ℕ) → IsTaken [] e.c0 s0 s1 → IsTaken (codes "*t") e.c1 s1 s2 → IsTaken (codes "*t^2") e.c2 s2 s3 → IsTaken (codes "*s") e.c3 s3 s4
+    → IsTaken (codes "*s*t") e.c4 s4 s5 → IsTaken (codes "*s*t^2") e.c5 s5 s6 → AreTaken letters (numbers e) s0 s6
+element_taken e s0 s1 s2 s3 s4 s5 s6 t0 t1 t2 t3 t4 t5 =
+    let are = letters_are in
+    let apart = letters_apart in
+    taken_more _ _ _ _ _ _ _ are apart.0 t0
+    (taken_more _ _ _ _ _ _ _ are.1 apart.1.0 t1
+    (taken_more _ _ _ _ _ _ _ are.1.1 apart.1.1.0 t2
+    (taken_more _ _ _ _ _ _ _ are.1.1.1 apart.1.1.1.0 t3
+    (taken_more _ _ _ _ _ _ _ are.1.1.1.1 apart.1.1.1.1.0 t4
+    (taken_more _ _ _ _ _ _ _ are.1.1.1.1.1 apart.1.1.1.1.1.0 t5 (taken_none s6))))))
 
-pub behind_second : (e : Ext Frac) (rest : List ℕ) → AreFractions e → FollowsAll rest → Follows powers.T (part2 e.c2 ++ rest)
-behind_second e rest ok follows = follows_more powers.T powers.Square e.c2 rest ok.c2 (λ h. absurd cc) follows.t
+pub element_front : (e : Ext Frac) (sum behind : List ℕ) → AreTaken letters (numbers e) sum behind → sum ≡ components_text e ++ behind
+element_front e sum behind taken = taken.front ∙ ap (λ z. z ++ behind) (sym (components_text_is e))
 
-pub all_nothing : FollowsAll []
-all_nothing = record { one = follows_nothing powers.One; t = follows_nothing powers.T; square = follows_nothing powers.Square }
-
-pub element_is : (e f : Ext Frac) → e.c0 ≡ f.c0 → e.c1 ≡ f.c1 → e.c2 ≡ f.c2 → e ≡ f
-element_is e f a b c = λ i. record { c0 = a i; c1 = b i; c2 = c i }
-
-pub joined_parts : (e : Ext Frac) (a b c d : List ℕ) → a ≡ part0 e.c0 ++ b → b ≡ part1 e.c1 ++ c → c ≡ part2 e.c2 ++ d → a ≡ components_text e ++ d
-joined_parts e a b c d ha hb hc = ha ∙ ap (λ z. part0 e.c0 ++ z) (hb ∙ ap (λ z. part1 e.c1 ++ z) hc) ∙ sym (parts_are e d)
+-- what is found of an element that stands there
+pub element_found : (e f : Ext Frac) (sum behind rest : List ℕ) → AreTaken letters (numbers e) sum behind → AreFractions f → FollowsAll letters rest → sum ≡ components_text f ++ rest → (e ≡ f) × (behind ≡ rest)
+element_found e f sum behind rest taken ok follows h =
+    let k = taken.found (numbers f) rest refl ok follows (h ∙ ap (λ z. z ++ rest) (components_text_is f)) in
+    (element_is e f k.0, k.1)
 
 -- ---- the plus at the front of a sum
 
@@ -78,38 +75,48 @@ pub sum_back : (sum bytes : List ℕ) → HasFront sum → without_plus sum ≡ 
 sum_back sum bytes (nothing is) e other = absurd (other (sym e ∙ ap without_plus is))
 sum_back sum bytes (first f rest some is) e other = ap signed_text (sym e) ∙ ap (λ z. signed_text (without_plus z)) is ∙ signed_without f rest some ∙ sym is
 
-pub front_more : (t : Bool) (f more : List ℕ) → 0 < length f → HasFront more → HasFront (flat_map signed_text (cond t [] (f ∷ [])) ++ more)
+some_by : (a b c : Bool) (star : ℕ) (letters fraction : List ℕ) → 0 < length letters → 0 < length fraction → 0 < length (cond (a && b) letters (cond (a && c) (45 ∷ letters) (fraction ++ star ∷ letters)))
+some_by true true c star letters fraction l f = l
+some_by true false true star letters fraction l f = omega arith
+some_by true false false star letters fraction l f = some_more fraction (star ∷ letters) f
+some_by false b c star letters fraction l f = some_more fraction (star ∷ letters) f
+
+-- a piece has a text
+pub some_product : (q : Frac) (body : List ℕ) → IsTrue (is_frac q) → IsBody body → 0 < length (product_text q body)
+some_product q [] valid is = some_text q valid
+some_product q (star ∷ []) valid is = absurd is
+some_product q (star ∷ c ∷ r) valid is = some_by (is_whole q.den (pos 1)) (is_whole q.num (pos 1)) (is_whole q.num (negsuc 0)) star (c ∷ r) (fraction_text q) (omega arith) (some_text q valid)
+
+front_more : (t : Bool) (f more : List ℕ) → 0 < length f → HasFront more → HasFront (cond t [] (signed_text f) ++ more)
 front_more true f more some h = h
-front_more false f more some h = first f more some (ap (λ z. z ++ more) (append-nil (signed_text f)))
+front_more false f more some h = first f more some refl
 
-some_by : (a b c : Bool) (letters fraction : List ℕ) → 0 < length letters → 0 < length fraction → 0 < length (cond (a && b) letters (cond (a && c) (45 ∷ letters) (fraction ++ 42 ∷ letters)))
-some_by true true c letters fraction l f = l
-some_by true false true letters fraction l f = omega arith
-some_by true false false letters fraction l f = some_more fraction (42 ∷ letters) f
-some_by false b c letters fraction l f = some_more fraction (42 ∷ letters) f
-
-pub some_product : (q : Frac) (letters : List ℕ) → IsTrue (is_frac q) → 0 < length letters → 0 < length (product_text q (42 ∷ letters))
-some_product q letters valid some = some_by (is_whole q.den (pos 1)) (is_whole q.num (pos 1)) (is_whole q.num (negsuc 0)) letters (fraction_text q) some (some_text q valid)
+numbers_front : (qs : List Frac) (bodies : List (List ℕ)) (rest : List ℕ) → AreValid qs → AllByRecursion IsBody bodies → HasFront rest → HasFront (flat_map component_text (zip qs bodies) ++ rest)
+numbers_front [] bodies rest valid are h = h
+numbers_front (q ∷ qs) [] rest valid are h = h
+numbers_front (q ∷ qs) (body ∷ bodies) rest valid are h =
+    subst HasFront (sym (append_assoc (component_text (q, body)) (flat_map component_text (zip qs bodies)) rest))
+    (front_more (is_zero_fraction q) (product_text q body) (flat_map component_text (zip qs bodies) ++ rest) (some_product q body valid.0 are.0) (numbers_front qs bodies rest valid.1 are.1 h))
 
 pub components_front : (e : Ext Frac) (rest : List ℕ) → AreFractions e → HasFront rest → HasFront (components_text e ++ rest)
-components_front e rest ok h =
-    subst HasFront (sym (parts_are e rest))
-    (front_more (is_zero_fraction e.c0) (product_text e.c0 []) (part1 e.c1 ++ (part2 e.c2 ++ rest)) (some_text e.c0 ok.c0)
-    (front_more (is_zero_fraction e.c1) (product_text e.c1 (codes "*t")) (part2 e.c2 ++ rest) (some_product e.c1 (116 ∷ []) ok.c1 (omega arith))
-    (front_more (is_zero_fraction e.c2) (product_text e.c2 (codes "*t^2")) rest (some_product e.c2 (116 ∷ 94 ∷ 50 ∷ []) ok.c2 (omega arith)) h)))
+unfolding components_text
+components_front e rest ok h = numbers_front (numbers e) letters rest ok letters_are h
 
 -- ---- elements
 
+pub rational_fractions : (q : Frac) → IsTrue (is_frac q) → AreFractions (rational_element q)
+rational_fractions q valid = (valid, (zero_valid, (zero_valid, (zero_valid, (zero_valid, (zero_valid, tt))))))
+
 -- the element 0
 abbrev pub zero_element : Ext Frac
-zero_element = record { c0 = zero_fraction; c1 = zero_fraction; c2 = zero_fraction }
+zero_element = rational_element zero_fraction
 
 zero_text : element_text zero_element ≡ 48 ∷ []
 unfolding element_text components_text
 zero_text = refl
 
 pub zero_read : (bytes : List ℕ) → bytes ≡ 48 ∷ [] → IsTextOf AreFractions element_text bytes zero_element
-zero_read bytes e = (record { c0 = zero_valid; c1 = zero_valid; c2 = zero_valid }, zero_text ∙ sym e)
+zero_read bytes e = (rational_fractions zero_fraction zero_valid, zero_text ∙ sym e)
 
 pub nothing_left : (r : Option (ℕ × Bor (List ℕ))) → is_some r ≡ false → joined r ≡ []
 nothing_left None e = refl
@@ -129,7 +136,7 @@ element_back e bytes ok h other =
     sum_back (components_text e ++ []) bytes (components_front e [] ok (nothing refl)) (ap without_plus (append-nil (components_text e)) ∙ h) other
 
 pub small : (e : Ext Frac) → AreFractions e → IsSmallElement e
-small e ok = record { c0 = component_by e.c0 ok.c0; c1 = component_by e.c1 ok.c1; c2 = component_by e.c2 ok.c2 }
+small e ok = all_to (λ q. IsTrue (is_frac q)) IsComponent (λ q valid. component_by q valid) (numbers e) ok
 
 pub element_same : (e f : Ext Frac) → AreFractions e → AreFractions f → element_text e ≡ element_text f → e ≡ f
 element_same e f he hf h = (element_one e f [] [] (small e he) (small f hf) tt tt (ap (λ z. z ++ []) h)).0
@@ -138,14 +145,17 @@ element_same e f he hf h = (element_one e f [] [] (small e he) (small f hf) tt t
 pub element_fractions : (a : Algebra) (e : Ext Frac) → IsTrue (is_element a e) → AreFractions e × IsTrue (is_zero_past a e)
 unfolding is_element
 element_fractions a e h =
-    let x = both (is_frac e.c0) (is_frac e.c1 && (is_frac e.c2 && is_zero_past a e)) h in
-    let y = both (is_frac e.c1) (is_frac e.c2 && is_zero_past a e) x.1 in
-    let z = both (is_frac e.c2) (is_zero_past a e) y.1 in
-    (record { c0 = x.0; c1 = y.0; c2 = z.0 }, z.1)
+    let c0 = both _ _ h in
+    let c1 = both _ _ c0.1 in
+    let c2 = both _ _ c1.1 in
+    let c3 = both _ _ c2.1 in
+    let c4 = both _ _ c3.1 in
+    let c5 = both _ _ c4.1 in
+    ((c0.0, (c1.0, (c2.0, (c3.0, (c4.0, (c5.0, tt)))))), c5.1)
 
 pub fractions_element : (a : Algebra) (e : Ext Frac) → AreFractions e → IsTrue (is_zero_past a e) → IsTrue (is_element a e)
 unfolding is_element
-fractions_element a e ok past = both_true ok.c0 (both_true ok.c1 (both_true ok.c2 past))
+fractions_element a e ok past = both_true ok.0 (both_true ok.1.0 (both_true ok.1.1.0 (both_true ok.1.1.1.0 (both_true ok.1.1.1.1.0 (both_true ok.1.1.1.1.1.0 past)))))
 
 pub past_fails : (a : Algebra) (e found : Ext Frac) (bytes : List ℕ) (r : Bool) → IsTrue (is_element a e) → element_text e ≡ bytes → IsTextOf AreFractions element_text bytes found → r ≡ is_zero_past a found → r ≡ false → ⊥
 past_fails a e found bytes r h text is test fails =

@@ -14,3 +14,4 @@ pub mod ModulusTexts
 pub mod TermTexts
 pub mod PolynomialTexts
 pub mod VisibleTexts
+pub mod AlgebraTexts

@@ -118,7 +118,7 @@ other_product true false true f letters e = absurd cc
 other_product true false false f letters e = refl
 other_product false one minus f letters e = refl
 
-signed_front : (f z : List ℕ) → 0 < length f → signed_text (f ++ z) ≡ signed_text f ++ z
+pub signed_front : (f z : List ℕ) → 0 < length f → signed_text (f ++ z) ≡ signed_text f ++ z
 signed_front [] z some = absurd (omega arith)
 signed_front (b ∷ bs) z some = by_test (eqb b 45)
   where

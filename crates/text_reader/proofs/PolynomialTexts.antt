@@ -1,8 +1,9 @@
 -- Polynomials by their texts.
-use Rattle.std.proofs.Common.{◌≡◌, ℕ, suc, ◌-◌, ◌<◌, Bool, true, false, cond, ◌&&◌, eqb, leb, ◌⊎◌, inl, inr, Option, Some, None, List, [], ◌∷◌, ◌++◌, length, get_or, refl, sym, ap, ◌∙◌, subst, append_assoc, append-nil, length-append, arith}
+use Rattle.std.proofs.Common.{◌≡◌, ℕ, suc, ◌-◌, ◌<◌, Bool, true, false, cond, ◌&&◌, eqb, leb, ◌⊎◌, inl, inr, Option, Some, None, List, [], ◌∷◌, ◌++◌, length, get_or, map, pos, refl, sym, ap, ◌∙◌, subst, append_assoc, append-nil, length-append, arith}
 use Rattle.std.specs.Prelude.{not, sum, Result, Ok, Err, IfOk, IfSome}
 use Rattle.std.specs.List.{AllByRecursion, list_all}
 use Rattle.std.proofs.lemmas.Bool.{leb-true}
+use Rattle.std.proofs.lemmas.Bool.Decides.{Decides-int_eq}
 use Rattle.std.specs.Cmp.Derive.{both_true}
 use Rattle.std.proofs.lemmas.List.Concat.{flat_map-append}
 use Rattle.std.proofs.lemmas.List.Folds.{list_all-append}
@@ -16,24 +17,23 @@ use Rattle.mono_exp.specs.Exponents.{is_before}
 use Rattle.jet_poly.specs.JetTerms.{JetTerms, AllAfter, IsRising}
 use Rattle.jet_poly.proofs.Output.{rising-push}
 use Rattle.jet_poly.proofs.Coefficients.{before-trans}
-use Rattle.poly_text.specs.Numbers.{components_text, element_text, is_zero_fraction, product_text, signed_text, without_plus}
+use Rattle.poly_text.specs.Numbers.{components_text, element_text, is_zero_fraction, letters, numbers, signed_text, without_plus}
 use Rattle.poly_text.specs.Polynomials.{is_one, jet_text, new_names, polynomial_in, term_in}
 use Rattle.cert_text.specs.WellFormed.{is_monomial_in, is_term_of, is_zero_element, IsJetOf}
-use Rattle.cert_law.specs.Fields.{IsHigher, IsMonomial}
+use Rattle.cert_law.specs.Fields.{IsBody, IsHigher, IsMonomial, zero_fraction}
 use Rattle.cert_law.specs.Unique.{Starts}
-use Rattle.cert_law.proofs.Jets.{decode, higher_lump, higher_text, lump_of, outer, zeros_same}
-use Rattle.cert_law.proofs.Lumps.{Lump, Simple, IsLump, lump_one}
+use Rattle.cert_law.proofs.Elements.{element_is, letters_are}
+use Rattle.cert_law.proofs.Jets.{IsInner, IsPlain, higher_lump, higher_text, letters_plain, lump_of, outer, zeros_same}
+use Rattle.cert_law.proofs.Lumps.{Simple, IsLump, lump_one}
 use Rattle.cert_law.proofs.Monomials.{exponents_is, starred}
 use Rattle.cert_law.proofs.Sums.{sign_of}
 use Rattle.cert_law.proofs.Valid.{both, component_by, higher_by, monomial_by}
-use Rattle.text_reader.specs.declared.piece.Power.{Power}
-use Rattle.text_reader.specs.declared.piece.Power.TheVariants as powers
-use Rattle.text_reader.specs.Pieces.{AreFractions, Follows, FollowsAll, IsSign, body_of}
+use Rattle.text_reader.specs.Pieces.{AreFractions, AreValid, Follows, FollowsAll, IsSign}
 use Rattle.text_reader.specs.Reading.{IsTextOf}
 use Rattle.text_reader.specs.Terms.{AreTermsOf, IsHigherTerm, IsLongTerm, IsSimpleTerm, constant_terms, is_after_last, one_monomial, term_text, terms_text}
-use Rattle.text_reader.proofs.ComponentTexts.{body_is, ends_piece, follows_nothing, starts_signed, zero_valid}
-use Rattle.text_reader.proofs.ElementTexts.{components_front, element_fractions, element_is, HasFront, first, nothing, some_product, sum_back, without_signed, zero_element}
-use Rattle.text_reader.proofs.TermTexts.{factors_there, higher_of, long_is, simple_product, term_cases, term_one, zero_by}
+use Rattle.text_reader.proofs.ComponentTexts.{ends_piece, follows_nothing, starts_signed, zero_is, zero_valid}
+use Rattle.text_reader.proofs.ElementTexts.{components_front, element_fractions, HasFront, first, nothing, rational_fractions, sum_back, without_signed, zero_element}
+use Rattle.text_reader.proofs.TermTexts.{higher_of, long_is, simple_product, term_cases, term_one, zero_numbers}
 
 abbrev Term : Type 0
 Term = Exp × Ext Frac
@@ -74,13 +74,12 @@ all_higher n order a m ts lt after valid = each ts (higher_by n order a m ts lt 
 
 element_test : (a : Algebra) (e : Ext Frac) → AreFractions e → is_element a e ≡ is_zero_past a e
 unfolding is_element
-element_test a e ok = three (is_frac e.c0) (is_frac e.c1) (is_frac e.c2) (is_zero_past a e) ok.c0 ok.c1 ok.c2
+element_test a e ok =
+    passed (is_frac e.c0) _ ok.0 ∙ passed (is_frac e.c1) _ ok.1.0 ∙ passed (is_frac e.c2) _ ok.1.1.0 ∙ passed (is_frac e.c3) _ ok.1.1.1.0 ∙ passed (is_frac e.c4) _ ok.1.1.1.1.0 ∙ passed (is_frac e.c5) (is_zero_past a e) ok.1.1.1.1.1.0
   where
-    three : (x y z w : Bool) → x ≡ true → y ≡ true → z ≡ true → (x && (y && (z && w))) ≡ w
-    three true true true w a b c = refl
-    three true true false w a b c = absurd cc
-    three true false z w a b c = absurd cc
-    three false y z w a b c = absurd cc
+    passed : (x w : Bool) → x ≡ true → (x && w) ≡ w
+    passed true w e = refl
+    passed false w e = absurd cc
 
 unless_by : (x z : Bool) → z ≡ true → false ≡ (x && not z)
 unless_by true true e = refl
@@ -140,10 +139,7 @@ term_signed : (t : Term) → IsHigherTerm t → (f : List ℕ) × (0 < length f)
 term_signed t h = by_case (term_cases t h)
   where
     by_case : IsSimpleTerm t ⊎ IsLongTerm t → (f : List ℕ) × (0 < length f) × (term_text t ≡ signed_text f)
-    by_case (inl s) =
-        let r = factors_there t.0 s.monomial s.higher in
-        let p = simple_product t s r.0 r.1 in
-        (product_text s.q (42 ∷ p.0), some_product s.q p.0 s.coefficient.0 p.1, p.2)
+    by_case (inl s) = simple_product t s
     by_case (inr s) = (40 ∷ (element_text t.1 ++ 41 ∷ starred t.0), omega arith, long_is t s)
 
 pub terms_start : (ts : List Term) → AllByRecursion IsHigherTerm ts → Starts IsSign (terms_text ts)
@@ -173,37 +169,40 @@ shorter t sum rest h e =
 
 -- ---- a constant first
 
-pub body_nothing : (power : Power) (q : Frac) → (decode (Simple q (body_of power))).1 ≡ []
-body_nothing powers.One q = refl
-body_nothing powers.T q = refl
-body_nothing powers.Square q = refl
-
-follows_power : (power : Power) (ts : List Term) → AllByRecursion IsHigherTerm ts → Follows power (terms_text ts)
-follows_power power [] h = follows_nothing power
-follows_power power (t ∷ ts) h = record {
+follows_body : (body : List ℕ) (ts : List Term) → IsBody body → IsPlain body → AllByRecursion IsHigherTerm ts → Follows body (terms_text ts)
+follows_body body [] is plain h = follows_nothing body
+follows_body body (t ∷ ts) is plain h = record {
   starts = terms_start (t ∷ ts) h;
   other = λ q x ok s e.
-      (let l : IsLump (Simple q (body_of power)) = record { small = (component_by q ok.0).small; nonzero = ok.1; factors = body_is power } in
-      let k = lump_one (Simple q (body_of power)) (lump_of t) x (terms_text ts) l (higher_lump t (higher_of t h.0)) (ends_piece x s) (ends_piece (terms_text ts) (terms_start ts h.1)) (e ∙ ap (λ z. z ++ terms_text ts) (higher_text t (higher_of t h.0))) in
-      outer t (higher_of t h.0) (ap (λ (l : Lump). (decode l).1) (sym k.0) ∙ body_nothing power q));
+      (let l : IsLump (Simple q body) = record { small = (component_by q ok.0).small; nonzero = ok.1; factors = is } in
+      let k = lump_one (Simple q body) (lump_of t) x (terms_text ts) l (higher_lump t (higher_of t h.0)) (ends_piece x s) (ends_piece (terms_text ts) (terms_start ts h.1)) (e ∙ ap (λ z. z ++ terms_text ts) (higher_text t (higher_of t h.0))) in
+      outer t (higher_of t h.0) (subst IsInner k.0 plain));
 }
 
+follows_bodies : (bodies : List (List ℕ)) (ts : List Term) → AllByRecursion IsBody bodies → AllByRecursion IsPlain bodies → AllByRecursion IsHigherTerm ts → FollowsAll bodies (terms_text ts)
+follows_bodies [] ts are plain h = tt
+follows_bodies (body ∷ bodies) ts are plain h = (follows_body body ts are.0 plain.0 h, follows_bodies bodies ts are.1 plain.1 h)
+
 -- terms that are not constant may follow a constant
-pub follows_terms : (ts : List Term) → AllByRecursion IsHigherTerm ts → FollowsAll (terms_text ts)
-follows_terms ts h = record { one = follows_power powers.One ts h; t = follows_power powers.T ts h; square = follows_power powers.Square ts h }
+pub follows_terms : (ts : List Term) → AllByRecursion IsHigherTerm ts → FollowsAll letters (terms_text ts)
+follows_terms ts h = follows_bodies letters ts letters_are letters_plain h
 
 zero_fractions : AreFractions zero_element
-zero_fractions = record { c0 = zero_valid; c1 = zero_valid; c2 = zero_valid }
+zero_fractions = rational_fractions zero_fraction zero_valid
 
 zero_components : components_text zero_element ≡ []
 unfolding components_text
 zero_components = refl
 
+zeros_are : (qs : List Frac) → AreValid qs → AllByRecursion (λ q. is_zero_fraction q ≡ true) qs → map (λ (q : Frac). zero_fraction) qs ≡ qs
+zeros_are [] valid z = refl
+zeros_are (q ∷ qs) valid z =
+    let first : zero_fraction ≡ q = zero_is q valid.0 ((Decides-int_eq q.num (pos 0)).0 z.0) in
+    let others = zeros_are qs valid.1 z.1 in
+    cc (first, others)
+
 element_zero : (e : Ext Frac) → AreFractions e → is_zero_element e ≡ true → zero_element ≡ e
-element_zero e ok z =
-    let p = both (is_zero_fraction e.c0) (is_zero_fraction e.c1 && is_zero_fraction e.c2) z in
-    let q = both (is_zero_fraction e.c1) (is_zero_fraction e.c2) p.1 in
-    element_is zero_element e (zero_by e.c0 ok.c0 p.0) (zero_by e.c1 ok.c1 q.0) (zero_by e.c2 ok.c2 q.1)
+element_zero e ok z = element_is zero_element e (zeros_are (numbers e) ok (zero_numbers e z))
 
 constant_text : (e : Ext Frac) → term_text (one_monomial, e) ≡ components_text e
 unfolding term_in
@@ -382,7 +381,7 @@ jet_found n order a f bytes lt is text other =
 
 -- what the reader of the constant finds
 pub record FindsConstant (all : List ℕ) (constant : Ext Frac) (rest : List ℕ) : Type 0 where
-  pub found : (e : Ext Frac) (behind : List ℕ) → AreFractions e → FollowsAll behind → all ≡ components_text e ++ behind → (constant ≡ e) × (rest ≡ behind)
+  pub found : (e : Ext Frac) (behind : List ℕ) → AreFractions e → FollowsAll letters behind → all ≡ components_text e ++ behind → (constant ≡ e) × (rest ≡ behind)
 
 pub constant_refused : (n order : ℕ) (a : Algebra) (f : JetTerms (Ext Frac)) (bytes all rest : List ℕ) (constant : Ext Frac) → order < 256 → (bytes ≡ 48 ∷ [] → ⊥) → all ≡ signed_text bytes → FindsConstant all constant rest → (AreTermsOf n order a (constant_terms constant) → ⊥)
     → IsJetOf n order a f → jet_text f ≡ bytes → ⊥

@@ -1,36 +1,35 @@
 -- Terms that are not constant, by their texts.
-use Rattle.std.proofs.Common.{◌≡◌, ◌≢◌, ℕ, ◌+◌, ◌-◌, ◌<◌, Bool, true, false, cond, ◌&&◌, eqb, ◌⊎◌, inl, inr, pos, Option, Some, None, List, [], ◌∷◌, ◌++◌, length, take, drop, length-drop, refl, sym, ap, ◌∙◌, subst, append_assoc, append-nil, arith, IsTrue}
-use Rattle.std.specs.Prelude.{codes, IfSome, position}
+use Rattle.std.proofs.Common.{◌≡◌, ◌≢◌, ℕ, suc, ◌+◌, ◌-◌, ◌<◌, Bool, true, false, cond, ◌&&◌, eqb, ◌⊎◌, inl, inr, pos, negsuc, Option, Some, None, List, [], ◌∷◌, ◌++◌, length, take, drop, length-drop, refl, sym, ap, ◌∙◌, subst, append_assoc, append-nil, arith, IsTrue}
+use Rattle.std.specs.Prelude.{IfSome, is_some, not, position}
 use Rattle.std.specs.Borrow.{Bor}
-use Rattle.std.specs.List.{AllByRecursion, flat_map}
-use Rattle.std.proofs.lemmas.Bool.Decides.{Decides-int_eq}
+use Rattle.std.specs.List.{AllByRecursion, flat_map, zip}
 use Rattle.std.proofs.lemmas.List.{append_cancel_right, take_all, take-append-drop}
 use Rattle.ring_law.specs.declared.fraction.Frac.{Frac}
 use Rattle.ext_algebra.specs.declared.algebra.Ext.{Ext}
 use Rattle.ext_algebra.specs.Fractions.{is_frac}
 use Rattle.mono_exp.specs.declared.exponent.Exp.{Exp}
-use Rattle.poly_text.specs.Numbers.{components_text, element_text, is_zero_fraction, one_unless_zero, product_text, signed_text, without_plus}
-use Rattle.poly_text.specs.Polynomials.{is_one}
+use Rattle.poly_text.specs.Numbers.{Piece, component_text, components, components_text, element_text, fraction_text, is_whole, is_zero_fraction, letters, numbers, piece_text, product_text, scaled_text, signed_text, sum_before, without_plus, without_zeros}
+use Rattle.poly_text.specs.Polynomials.{is_one, term_in}
 use Rattle.cert_text.specs.WellFormed.{is_zero_element}
-use Rattle.cert_law.specs.Fields.{Element, IsInside, IsMonomial, IsHigher, zero_fraction}
+use Rattle.cert_law.specs.Fields.{IsBody, IsMonomial, IsHigher}
 use Rattle.cert_law.specs.Unique.{Starts}
 use Rattle.cert_law.proofs.Cut.{head, cut, same_front}
-use Rattle.cert_law.proofs.Elements.{pieces_of}
 use Rattle.cert_law.proofs.Elements as elements
-use Rattle.cert_law.proofs.Jets.{higher_lump, higher_text, lump_of, lump_tells, starred_front, factors_is, factors_inside}
+use Rattle.cert_law.proofs.Jets.{higher_lump, higher_text, longer_body, lump_of, lump_tells, starred_front, factors_is, factors_inside}
 use Rattle.cert_law.proofs.Lumps.{lump_one, lump_text}
 use Rattle.cert_law.proofs.Monomials.{starred}
 use Rattle.cert_law.proofs.Numbers.{IsDigit, all_append}
 use Rattle.cert_law.proofs.Series.{no_factors}
+use Rattle.cert_law.proofs.Sums.{sign_of}
 use Rattle.cert_law.proofs.Terms.{lump_by}
-use Rattle.cert_law.proofs.Valid.{all_to}
-use Rattle.text_reader.specs.declared.piece.Power.{Power}
-use Rattle.text_reader.specs.declared.piece.Power.TheVariants as powers
-use Rattle.text_reader.specs.Pieces.{AreFractions, IsCoefficient, IsLetters, IsSign, body_of, joined}
+use Rattle.cert_law.proofs.Valid.{both, some_piece}
+use Rattle.text_reader.specs.Elements.{rational_element}
+use Rattle.text_reader.specs.Pieces.{AreFractions, AreValid, IsCoefficient, IsLetters, IsSign, is_unit_of, joined}
 use Rattle.text_reader.specs.Reading.{IsTextOf}
-use Rattle.text_reader.specs.Terms.{multiple, simple_text, term_text, IsHigherTerm, IsSimpleTerm, IsLongTerm, IsVariable}
-use Rattle.text_reader.proofs.ComponentTexts.{zero_valid, zero_is, ends_piece, Admits, lettered, ends_with, IsBefore, not_sign, unsigned, piece_shape}
-use Rattle.text_reader.proofs.ElementTexts.{element_is, element_same, small, part0, part1, part2, parts_are}
+use Rattle.text_reader.specs.Terms.{before_factors, term_text, IsHigherTerm, IsLong, IsLongTerm, IsSimpleTerm, IsSingle, IsVariable, IsWritten}
+use Rattle.text_reader.proofs.ComponentTexts.{Admits, IsBefore, all_unsigned, ends_piece, letters_all, lettered, not_sign, not_zero, piece_shape, unsigned, zero_is}
+use Rattle.text_reader.proofs.ElementTexts.{components_text_is, element_same, rational_fractions, small, some_product}
+use Rattle.text_reader.proofs.PieceTexts.{Front, unit, written, front_of, other_text, signed_front, signed_list}
 use Rattle.text_reader.proofs.Places.{byte_some}
 use Rattle.text_reader.proofs.Visible.{cut_at, unsplit}
 
@@ -39,147 +38,157 @@ Term = Exp × Ext Frac
 
 -- ---- coefficients: one component, or more
 
-not_every : (a b c : Bool) → (a && (b && c)) ≡ false → a ≡ true → b ≡ true → c ≡ true → ⊥
-not_every true true true h p q r = cc
-not_every true true false h p q r = cc
-not_every true false c h p q r = cc
-not_every false b c h p q r = cc
-
 -- as the laws of unique reading have it
 pub higher_of : (t : Term) → IsHigherTerm t → IsHigher t
-higher_of t h = record {
-  term = record { coefficient = small t.1 h.fractions; nonzero = not_every (is_zero_fraction t.1.c0) (is_zero_fraction t.1.c1) (is_zero_fraction t.1.c2) h.nonzero; monomial = h.monomial };
-  higher = h.higher;
-}
+higher_of t h = record { term = record { coefficient = small t.1 h.fractions; some = some_piece t.1 h.nonzero; monomial = h.monomial }; higher = h.higher }
 
-pub not_zero : (q : Frac) → IsCoefficient q → is_zero_fraction q ≡ false
-not_zero q ok = by_test (is_zero_fraction q) refl
+zeros_none : (qs : List Frac) (bodies : List (List ℕ)) → AllByRecursion (λ q. is_zero_fraction q ≡ true) qs → without_zeros (zip qs bodies) ≡ []
+zeros_none [] bodies zero_all = refl
+zeros_none (q ∷ qs) [] zero_all = refl
+zeros_none (q ∷ qs) (body ∷ bodies) zero_all =
+    ap (λ (t : Bool). cond (not t) ((q, body) ∷ without_zeros (zip qs bodies)) (without_zeros (zip qs bodies))) zero_all.0 ∙ zeros_none qs bodies zero_all.1
+
+pub zero_numbers : (e : Ext Frac) → is_zero_element e ≡ true → AllByRecursion (λ q. is_zero_fraction q ≡ true) (numbers e)
+zero_numbers e z =
+    let c0 = both _ _ z in
+    let c1 = both _ _ c0.1 in
+    let c2 = both _ _ c1.1 in
+    let c3 = both _ _ c2.1 in
+    let c4 = both _ _ c3.1 in
+    (c0.0, (c1.0, (c2.0, (c3.0, (c4.0, (c4.1, tt))))))
+
+zero_none : (e : Ext Frac) → is_zero_element e ≡ true → without_zeros (components e) ≡ []
+zero_none e z = zeros_none (numbers e) letters (zero_numbers e z)
+
+some_nonzero : (e : Ext Frac) → (without_zeros (components e) ≡ [] → ⊥) → is_zero_element e ≡ false
+some_nonzero e some = by_test (is_zero_element e) refl
   where
-    by_test : (t : Bool) → is_zero_fraction q ≡ t → is_zero_fraction q ≡ false
-    by_test false e = e
-    by_test true e = absurd (ok.1 ((Decides-int_eq q.num (pos 0)).0 e))
+    by_test : (t : Bool) → is_zero_element e ≡ t → is_zero_element e ≡ false
+    by_test false z = z
+    by_test true z = absurd (some (zero_none e z))
 
-multiple_fractions : (power : Power) (q : Frac) → IsCoefficient q → AreFractions (multiple power q)
-multiple_fractions powers.One q ok = record { c0 = ok.0; c1 = zero_valid; c2 = zero_valid }
-multiple_fractions powers.T q ok = record { c0 = zero_valid; c1 = ok.0; c2 = zero_valid }
-multiple_fractions powers.Square q ok = record { c0 = zero_valid; c1 = zero_valid; c2 = ok.0 }
-
-multiple_nonzero : (power : Power) (q : Frac) → IsCoefficient q → is_zero_element (multiple power q) ≡ false
-multiple_nonzero powers.One q ok = ap (λ (t : Bool). t && true) (not_zero q ok)
-multiple_nonzero powers.T q ok = ap (λ (t : Bool). t && true) (not_zero q ok)
-multiple_nonzero powers.Square q ok = not_zero q ok
+one_or_none : (p : Piece) (ps : List Piece) → ps ≡ p ∷ [] → ps ≡ [] → ⊥
+one_or_none p ps one none = let h : p ∷ [] ≡ [] = sym one ∙ none in cc
 
 pub simple_higher : (t : Term) → IsSimpleTerm t → IsHigherTerm t
 simple_higher t s = record {
-  fractions = subst AreFractions (sym s.is) (multiple_fractions s.power s.q s.coefficient);
-  nonzero = ap is_zero_element s.is ∙ multiple_nonzero s.power s.q s.coefficient;
+  fractions = s.fractions;
+  nonzero = some_nonzero t.1 (one_or_none s.single.0 (without_zeros (components t.1)) s.single.1);
   monomial = s.monomial;
   higher = s.higher;
 }
-
-abbrev count_by : Bool → Bool → Bool → ℕ
-count_by z0 z1 z2 = cond z0 0 1 + cond z1 0 1 + cond z2 0 1
-
-long_nonzero : (z0 z1 z2 : Bool) → 1 < count_by z0 z1 z2 → (z0 && (z1 && z2)) ≡ false
-long_nonzero true true true h = absurd (omega (arith, h))
-long_nonzero true true false h = refl
-long_nonzero true false c h = refl
-long_nonzero false b c h = refl
 
 pub long_higher : (t : Term) → IsLongTerm t → IsHigherTerm t
 long_higher t s = record {
   fractions = s.fractions;
-  nonzero = long_nonzero (is_zero_fraction t.1.c0) (is_zero_fraction t.1.c1) (is_zero_fraction t.1.c2) s.long;
+  nonzero = some_nonzero t.1 (λ none. (let h : length (without_zeros (components t.1)) ≡ 0 = ap (λ (ps : List Piece). length ps) none in let k = s.long in omega (arith, h, k)));
   monomial = s.monomial;
   higher = s.higher;
 }
 
-unless_zero : (q : Frac) (t : Bool) → is_zero_fraction q ≡ t → one_unless_zero q ≡ cond t 0 1
-unless_zero q t e = ap (λ (z : Bool). cond z 0 1) e
-
-coefficient_is : (q : Frac) → IsTrue (is_frac q) → is_zero_fraction q ≡ false → IsCoefficient q
-coefficient_is q valid e = (valid, elements.nonzero q e)
-
-pub zero_by : (q : Frac) → IsTrue (is_frac q) → is_zero_fraction q ≡ true → zero_fraction ≡ q
-zero_by q valid e = zero_is q valid ((Decides-int_eq q.num (pos 0)).0 e)
-
-long_by : (z0 z1 z2 : Bool) (t : Term) → is_zero_fraction t.1.c0 ≡ z0 → is_zero_fraction t.1.c1 ≡ z1 → is_zero_fraction t.1.c2 ≡ z2 → IsHigherTerm t → 1 < count_by z0 z1 z2 → IsLongTerm t
-long_by z0 z1 z2 t a b c h two = record {
-  fractions = h.fractions;
-  long = (let p = unless_zero t.1.c0 z0 a in let q = unless_zero t.1.c1 z1 b in let r = unless_zero t.1.c2 z2 c in omega (arith, p, q, r, two));
-  monomial = h.monomial;
-  higher = h.higher;
-}
-
-cases_by : (z0 z1 z2 : Bool) (t : Term) → is_zero_fraction t.1.c0 ≡ z0 → is_zero_fraction t.1.c1 ≡ z1 → is_zero_fraction t.1.c2 ≡ z2 → IsHigherTerm t → IsSimpleTerm t ⊎ IsLongTerm t
-cases_by true true true t a b c h = absurd (not_every (is_zero_fraction t.1.c0) (is_zero_fraction t.1.c1) (is_zero_fraction t.1.c2) h.nonzero a b c)
-cases_by false true true t a b c h =
-    inl (record {
-      power = powers.One;
-      q = t.1.c0;
-      coefficient = coefficient_is t.1.c0 h.fractions.c0 a;
-      is = element_is t.1 (multiple powers.One t.1.c0) refl (sym (zero_by t.1.c1 h.fractions.c1 b)) (sym (zero_by t.1.c2 h.fractions.c2 c));
+cases_by : (ps : List Piece) (t : Term) → without_zeros (components t.1) ≡ ps → IsHigherTerm t → IsSimpleTerm t ⊎ IsLongTerm t
+cases_by [] t e h = absurd (some_piece t.1 h.nonzero e)
+cases_by (p ∷ []) t e h = inl (record { fractions = h.fractions; single = (p, e); monomial = h.monomial; higher = h.higher })
+cases_by (p ∷ q ∷ ps) t e h =
+    inr (record {
+      fractions = h.fractions;
+      long = (let k : length (without_zeros (components t.1)) ≡ suc (suc (length ps)) = ap (λ (xs : List Piece). length xs) e in omega (arith, k));
       monomial = h.monomial;
       higher = h.higher;
     })
-cases_by true false true t a b c h =
-    inl (record {
-      power = powers.T;
-      q = t.1.c1;
-      coefficient = coefficient_is t.1.c1 h.fractions.c1 b;
-      is = element_is t.1 (multiple powers.T t.1.c1) (sym (zero_by t.1.c0 h.fractions.c0 a)) refl (sym (zero_by t.1.c2 h.fractions.c2 c));
-      monomial = h.monomial;
-      higher = h.higher;
-    })
-cases_by true true false t a b c h =
-    inl (record {
-      power = powers.Square;
-      q = t.1.c2;
-      coefficient = coefficient_is t.1.c2 h.fractions.c2 c;
-      is = element_is t.1 (multiple powers.Square t.1.c2) (sym (zero_by t.1.c0 h.fractions.c0 a)) (sym (zero_by t.1.c1 h.fractions.c1 b)) refl;
-      monomial = h.monomial;
-      higher = h.higher;
-    })
-cases_by false false z2 t a b c h = inr (long_by false false z2 t a b c h (two z2))
-  where
-    two : (z : Bool) → 1 < count_by false false z
-    two true = omega arith
-    two false = omega arith
-cases_by false true false t a b c h = inr (long_by false true false t a b c h (omega arith))
-cases_by true false false t a b c h = inr (long_by true false false t a b c h (omega arith))
 
 -- a coefficient has one component or more
 pub term_cases : (t : Term) → IsHigherTerm t → IsSimpleTerm t ⊎ IsLongTerm t
-term_cases t h = cases_by (is_zero_fraction t.1.c0) (is_zero_fraction t.1.c1) (is_zero_fraction t.1.c2) t refl refl refl h
+term_cases t h = cases_by (without_zeros (components t.1)) t refl h
+
+-- more than one piece, where there are some and not only one
+many : (ps : List Piece) → (ps ≡ [] → ⊥) → ((p : Piece) → ps ≡ p ∷ [] → ⊥) → 1 < length ps
+many [] some more = absurd (some refl)
+many (p ∷ []) some more = absurd (more p refl)
+many (p ∷ q ∷ ps) some more = omega arith
+
+pub is_many : (e : Ext Frac) (z : Bool) → z ≡ is_zero_element e → z ≡ false → ((p : Piece) → without_zeros (components e) ≡ p ∷ [] → ⊥) → IsLong e
+is_many e z is h more = many (without_zeros (components e)) (some_piece e (sym is ∙ h)) more
+
+pub zero_short : (e : Ext Frac) (z : Bool) → z ≡ is_zero_element e → z ≡ true → IsLong e → ⊥
+zero_short e z is h long = let k : length (without_zeros (components e)) ≡ 0 = ap (λ (ps : List Piece). length ps) (zero_none e (sym is ∙ h)) in omega (arith, k, long)
+
+pub one_short : (e : Ext Frac) (p : Piece) → without_zeros (components e) ≡ p ∷ [] → IsLong e → ⊥
+one_short e p one long = let k : length (without_zeros (components e)) ≡ 1 = ap (λ (ps : List Piece). length ps) one in omega (arith, k, long)
+
+nothing_there : (r : Bool) → false ≡ not r → r ≡ true
+nothing_there true h = refl
+nothing_there false h = absurd cc
+
+something_there : (r : Bool) → true ≡ not r → r ≡ true → ⊥
+something_there true h there = absurd cc
+something_there false h there = absurd cc
+
+-- the test by the only component
+pub long_test : (e : Ext Frac) (z : Bool) (only : Option (Frac × Bor (List ℕ))) (r : Bool) → z ≡ is_zero_element e → z ≡ false → is_some only ≡ not r → IfSome only (λ p. without_zeros (components e) ≡ (p.0, p.1.now) ∷ [])
+    → (only ≡ None → (p : Piece) → without_zeros (components e) ≡ p ∷ [] → ⊥) → (r ≡ true → IsLong e) × (IsLong e → r ≡ true)
+long_test e z None r is h test some none = (λ yes. is_many e z is h (none refl), λ long. nothing_there r test)
+long_test e z (Some p) r is h test some none = (λ yes. absurd (something_there r test yes), λ long. absurd (one_short e (p.0, p.1.now) some long))
+
+-- ---- the piece of a coefficient of one component
+
+coefficient_step : (Q : List ℕ → Type 0) (t : Bool) (q : Frac) (body : List ℕ) (ps : List Piece) → is_zero_fraction q ≡ t → IsTrue (is_frac q) → Q body → AllByRecursion (λ p. IsCoefficient p.0 × Q p.1) ps
+    → AllByRecursion (λ p. IsCoefficient p.0 × Q p.1) (cond (not t) ((q, body) ∷ ps) ps)
+coefficient_step Q true q body ps e valid is more = more
+coefficient_step Q false q body ps e valid is more = (((valid, elements.not_zero q e), is), more)
+
+coefficients : (Q : List ℕ → Type 0) (qs : List Frac) (bodies : List (List ℕ)) → AreValid qs → AllByRecursion Q bodies → AllByRecursion (λ p. IsCoefficient p.0 × Q p.1) (without_zeros (zip qs bodies))
+coefficients Q [] bodies valid is = tt
+coefficients Q (q ∷ qs) [] valid is = tt
+coefficients Q (q ∷ qs) (body ∷ bodies) valid is = coefficient_step Q (is_zero_fraction q) q body (without_zeros (zip qs bodies)) refl valid.0 is.0 (coefficients Q qs bodies valid.1 is.1)
+
+-- its number is a coefficient, and its body is one of the letters
+pub single_piece : (Q : List ℕ → Type 0) → AllByRecursion Q letters → (e : Ext Frac) → AreFractions e → (p : Piece) → without_zeros (components e) ≡ p ∷ [] → IsCoefficient p.0 × Q p.1
+single_piece Q is e ok p one = (subst (AllByRecursion (λ p. IsCoefficient p.0 × Q p.1)) one (coefficients Q (numbers e) letters ok is)).0
+
+single_components : (e : Ext Frac) (p : Piece) → without_zeros (components e) ≡ p ∷ [] → components_text e ≡ piece_text p
+single_components e p one = elements.components_are e ∙ ap (λ (ps : List Piece). flat_map piece_text ps) one ∙ append-nil (piece_text p)
+
+pub single_scaled : (e : Ext Frac) (p : Piece) (body : List ℕ) → without_zeros (components e) ≡ p ∷ [] → scaled_text e body ≡ product_text p.0 (p.1 ++ body)
+unfolding scaled_text
+single_scaled e p body one = ap (λ (ps : List Piece). sum_before ps (element_text e) body) one
+
+some_end : (f : List ℕ) (star : ℕ) (body : List ℕ) → 0 < length (f ++ star ∷ body)
+some_end [] star body = omega arith
+some_end (b ∷ f) star body = omega arith
+
+star_by : (a b d : Bool) (star : ℕ) (body f y : List ℕ) → 0 < length body
+    → signed_text (cond (a && b) (body ++ y) (cond (a && d) (45 ∷ (body ++ y)) (f ++ star ∷ (body ++ y)))) ≡ signed_text (cond (a && b) body (cond (a && d) (45 ∷ body) (f ++ star ∷ body))) ++ y
+star_by true true d star body f y some = signed_front body y some
+star_by true false true star body f y some = refl
+star_by true false false star body f y some = ap signed_text (sym (append_assoc f (star ∷ body) y)) ∙ signed_front (f ++ star ∷ body) y (some_end f star body)
+star_by false b d star body f y some = ap signed_text (sym (append_assoc f (star ∷ body) y)) ∙ signed_front (f ++ star ∷ body) y (some_end f star body)
+
+-- a star and more behind a piece, where its number is written or has letters
+star_text : (q : Frac) (body x : List ℕ) → IsTrue (is_frac q) → IsBody body → (body ≡ [] → is_unit_of q ≡ false) → signed_text (product_text q (body ++ 42 ∷ x)) ≡ piece_text (q, body) ++ 42 ∷ x
+star_text q [] x valid is other = other_text q x valid (other refl)
+star_text q (star ∷ []) x valid is other = absurd is
+star_text q (star ∷ c ∷ r) x valid is other = star_by (is_whole q.den (pos 1)) (is_whole q.num (pos 1)) (is_whole q.num (negsuc 0)) star (c ∷ r) (fraction_text q) (42 ∷ x) (omega arith)
 
 -- ---- the texts
 
-lump_simple : (power : Power) (q : Frac) (body : List ℕ) → is_zero_fraction q ≡ false → lump_text (lump_by (pieces_of (multiple power q)) (multiple power q) body) ≡ signed_text (product_text q (body_of power ++ body))
-lump_simple powers.One q body e = ap (λ (t : Bool). lump_text (lump_by (cond t [] ((q, []) ∷ []) ++ [] ++ []) (multiple powers.One q) body)) e
-lump_simple powers.T q body e = ap (λ (t : Bool). lump_text (lump_by ([] ++ cond t [] ((q, codes "*t") ∷ []) ++ []) (multiple powers.T q) body)) e
-lump_simple powers.Square q body e = ap (λ (t : Bool). lump_text (lump_by ([] ++ [] ++ cond t [] ((q, codes "*t^2") ∷ [])) (multiple powers.Square q) body)) e
+-- the coefficient before the factors
+pub term_scaled : (t : Term) → is_one t.0 ≡ false → term_text t ≡ signed_text (scaled_text t.1 (starred t.0))
+unfolding term_in
+term_scaled t higher = ap (λ (b : Bool). cond b (components_text t.1) (signed_text (scaled_text t.1 (starred t.0)))) higher
 
--- one component: the coefficient and a power of t before the factors
-pub simple_is : (t : Term) (s : IsSimpleTerm t) → term_text t ≡ signed_text (product_text s.q (body_of s.power ++ starred t.0))
-simple_is t s =
-    higher_text t (higher_of t (simple_higher t s))
-    ∙ ap (λ (e : Element). lump_text (lump_by (pieces_of e) e (starred t.0))) s.is
-    ∙ lump_simple s.power s.q (starred t.0) (not_zero s.q s.coefficient)
+-- one component: its number and letters before the factors
+pub simple_is : (t : Term) (s : IsSimpleTerm t) → term_text t ≡ signed_text (product_text s.single.0.0 (s.single.0.1 ++ starred t.0))
+simple_is t s = term_scaled t s.higher ∙ ap signed_text (single_scaled t.1 s.single.0 (starred t.0) s.single.1)
 
-lump_long : (z0 z1 z2 : Bool) (e : Element) (body : List ℕ) → 1 < count_by z0 z1 z2
-    → lump_text (lump_by (cond z0 [] ((e.c0, []) ∷ []) ++ cond z1 [] ((e.c1, codes "*t") ∷ []) ++ cond z2 [] ((e.c2, codes "*t^2") ∷ [])) e body) ≡ 43 ∷ 40 ∷ (element_text e ++ 41 ∷ body)
-lump_long true true true e body h = absurd (omega (arith, h))
-lump_long false true true e body h = absurd (omega (arith, h))
-lump_long true false true e body h = absurd (omega (arith, h))
-lump_long true true false e body h = absurd (omega (arith, h))
-lump_long false false true e body h = refl
-lump_long false true false e body h = refl
-lump_long true false false e body h = refl
-lump_long false false false e body h = refl
+lump_long : (ps : List Piece) (e : Ext Frac) (body : List ℕ) → 1 < length ps → lump_text (lump_by ps e body) ≡ 43 ∷ 40 ∷ (element_text e ++ 41 ∷ body)
+lump_long [] e body h = absurd (omega (arith, h))
+lump_long (p ∷ []) e body h = absurd (omega (arith, h))
+lump_long (p ∷ q ∷ ps) e body h = refl
 
 -- more components: parentheses before the factors
 pub long_is : (t : Term) → IsLongTerm t → term_text t ≡ 43 ∷ 40 ∷ (element_text t.1 ++ 41 ∷ starred t.0)
-long_is t s = higher_text t (higher_of t (long_higher t s)) ∙ lump_long (is_zero_fraction t.1.c0) (is_zero_fraction t.1.c1) (is_zero_fraction t.1.c2) t.1 (starred t.0) s.long
+long_is t s = higher_text t (higher_of t (long_higher t s)) ∙ lump_long (without_zeros (components t.1)) t.1 (starred t.0) s.long
 
 -- two terms of one text are one
 pub term_one : (t u : Term) (x y : List ℕ) → IsHigherTerm t → IsHigherTerm u → Starts IsSign x → Starts IsSign y → term_text t ++ x ≡ term_text u ++ y → (t ≡ u) × (x ≡ y)
@@ -201,15 +210,9 @@ not_one m x is e = by_test (is_one m) refl
 pub factors_there : (m : Exp) → IsMonomial m → is_one m ≡ false → (r : List ℕ) × (starred m ≡ 42 ∷ 117 ∷ r)
 factors_there m is higher = factors_is (starred m) (starred_front m is higher)
 
-inside_unsigned : (b : ℕ) → IsInside b → ¬ IsSign b
-inside_unsigned b (inl le) (inl e) = omega (arith, le, e)
-inside_unsigned b (inl le) (inr e) = omega (arith, le, e)
-inside_unsigned b (inr is) (inl e) = omega (arith, is, e)
-inside_unsigned b (inr is) (inr e) = omega (arith, is, e)
-
 -- no sign in them
 pub factors_unsigned : (m : Exp) → IsMonomial m → is_one m ≡ false → AllByRecursion (λ b. ¬ IsSign b) (starred m)
-factors_unsigned m is higher = all_to IsInside (λ b. ¬ IsSign b) inside_unsigned (starred m) (factors_inside (starred m) (starred_front m is higher))
+factors_unsigned m is higher = all_unsigned (starred m) (factors_inside (starred m) (starred_front m is higher))
 
 pub starred_some : (bytes factors : List ℕ) (r : Option Exp) → bytes ≡ 42 ∷ factors → IfSome r (IsTextOf IsMonomial starred (42 ∷ factors)) → IfSome r (λ m. IsMonomial m × (is_one m ≡ false) × (starred m ≡ bytes))
 starred_some bytes factors None e h = tt
@@ -217,49 +220,43 @@ starred_some bytes factors (Some m) e h = (h.0, not_one m factors h.0 h.1, h.1 �
 
 -- ---- one component
 
--- what stands between the coefficient and the factors
-abbrev before : Power → List ℕ
-before powers.One = []
-before powers.T = 116 ∷ 42 ∷ []
-before powers.Square = 116 ∷ 94 ∷ 50 ∷ 42 ∷ []
-
-body_split : (power : Power) (x : List ℕ) → body_of power ++ 42 ∷ x ≡ 42 ∷ (before power ++ x)
-body_split powers.One x = refl
-body_split powers.T x = refl
-body_split powers.Square x = refl
-
-before_letters : (power : Power) (x : List ℕ) → IsLetters x → IsLetters (before power ++ x)
-before_letters powers.One x h = h
-before_letters powers.T x h = omega arith
-before_letters powers.Square x h = omega arith
-
-before_all : (P : ℕ → Type 0) → Admits P → P 116 → P 94 → (power : Power) → AllByRecursion P (before power)
-before_all P adm t caret powers.One = tt
-before_all P adm t caret powers.T = (t, (adm.star, tt))
-before_all P adm t caret powers.Square = (t, (caret, (adm.digit 50 (omega arith, omega arith), (adm.star, tt))))
-
--- a sign, bytes of this kind, and the factors from the first variable on
-pub simple_shape : (P : ℕ → Type 0) → Admits P → P 116 → P 94 → (t : Term) (s : IsSimpleTerm t) (r : List ℕ) → starred t.0 ≡ 42 ∷ 117 ∷ r → (b : ℕ) × (m : List ℕ) × IsBefore P (term_text t) b m (117 ∷ r)
-simple_shape P adm t_is caret t s r e =
-    let h = lettered P adm s.q (before s.power ++ 117 ∷ r) s.coefficient.0 (before_letters s.power (117 ∷ r) (omega arith)) in
-    let text : term_text t ≡ signed_text (product_text s.q (42 ∷ (before s.power ++ 117 ∷ r))) = simple_is t s ∙ ap (λ z. signed_text (product_text s.q (body_of s.power ++ z))) e ∙ ap (λ z. signed_text (product_text s.q z)) (body_split s.power (117 ∷ r)) in (
-      h.0,
-      h.1 ++ before s.power,
+-- a coefficient before letters: a sign, and bytes of a kind
+shape : (P : ℕ → Type 0) → Admits P → (q : Frac) (body x : List ℕ) → IsTrue (is_frac q) → IsBody body → AllByRecursion P body → IsLetters x → (s : ℕ) × (m : List ℕ) × IsBefore P (signed_text (product_text q (body ++ 42 ∷ x))) s m x
+shape P adm q [] x valid is all h = lettered P adm q x valid h
+shape P adm q (star ∷ []) x valid is all h = absurd is
+shape P adm q (star ∷ c ∷ r) x valid is all h =
+    let p = piece_shape P adm (star ∷ c ∷ r) q is all valid in (
+      p.0,
+      p.1 ++ 42 ∷ [],
       record {
-        is = text ∙ h.2.is ∙ ap (λ z. h.0 ∷ z) (sym (append_assoc h.1 (before s.power) (117 ∷ r)));
-        sign = h.2.sign;
-        inside = all_append P h.1 (before s.power) h.2.inside (before_all P adm t_is caret s.power);
+        is = star_text q (star ∷ c ∷ r) x valid is (λ none. absurd cc) ∙ ap (λ z. z ++ 42 ∷ x) p.2.is ∙ ap (λ z. p.0 ∷ z) (sym (append_assoc p.1 (42 ∷ []) x));
+        sign = p.2.sign;
+        inside = all_append P p.1 (42 ∷ []) p.2.inside (adm.star, tt);
       },
     )
 
-other_than : (c : ℕ) → ((b : ℕ) → IsDigit b → b ≢ c) → c ≢ 47 → c ≢ 42 → Admits (λ b. b ≢ c)
-other_than c digit slash star = record { digit = digit; slash = λ e. slash (sym e); star = λ e. star (sym e) }
+-- the same of an element of one component
+single_shape : (P : ℕ → Type 0) → Admits P → (e : Ext Frac) (x : List ℕ) → AreFractions e → IsSingle e → IsLetters x → (s : ℕ) × (m : List ℕ) × IsBefore P (before_factors e x) s m x
+single_shape P adm e x ok single h =
+    let is = single_piece IsBody elements.letters_are e ok single.0 single.1 in
+    let all = single_piece (AllByRecursion P) (letters_all P adm) e ok single.0 single.1 in
+    let p = shape P adm single.0.0 single.0.1 x is.0.0 is.1 all.1 h in
+    (p.0, p.1, record { is = ap signed_text (single_scaled e single.0 (42 ∷ x) single.1) ∙ p.2.is; sign = p.2.sign; inside = p.2.inside })
+
+-- a sign, bytes of this kind, and the factors from the first variable on
+pub simple_shape : (P : ℕ → Type 0) → Admits P → (t : Term) (s : IsSimpleTerm t) (r : List ℕ) → starred t.0 ≡ 42 ∷ 117 ∷ r → (b : ℕ) × (m : List ℕ) × IsBefore P (term_text t) b m (117 ∷ r)
+simple_shape P adm t s r e =
+    let p = single_shape P adm t.1 (117 ∷ r) s.fractions s.single (omega arith) in
+    (p.0, p.1, record { is = term_scaled t s.higher ∙ ap (λ z. signed_text (scaled_text t.1 z)) e ∙ p.2.is; sign = p.2.sign; inside = p.2.inside })
+
+other_than : (c : ℕ) → ((b : ℕ) → IsDigit b → b ≢ c) → c ≢ 47 → c ≢ 42 → c ≢ 94 → c ≢ 115 → c ≢ 116 → Admits (λ b. b ≢ c)
+other_than c digit slash star caret s t = record { digit = digit; slash = λ e. slash (sym e); star = λ e. star (sym e); caret = λ e. caret (sym e); s = λ e. s (sym e); t = λ e. t (sym e) }
 
 no_variable : Admits (λ b. b ≢ 117)
-no_variable = other_than 117 (λ b d e. omega (arith, d.1, e)) (λ e. omega (arith, e)) (λ e. omega (arith, e))
+no_variable = other_than 117 (λ b d e. omega (arith, d.1, e)) (λ e. omega (arith, e)) (λ e. omega (arith, e)) (λ e. omega (arith, e)) (λ e. omega (arith, e)) (λ e. omega (arith, e))
 
 variable_shape : (t : Term) (s : IsSimpleTerm t) (r : List ℕ) → starred t.0 ≡ 42 ∷ 117 ∷ r → (b : ℕ) × (m : List ℕ) × IsBefore (λ b. b ≢ 117) (term_text t) b m (117 ∷ r)
-variable_shape t s r e = simple_shape (λ b. b ≢ 117) no_variable (λ h. omega (arith, h)) (λ h. omega (arith, h)) t s r e
+variable_shape t s r e = simple_shape (λ b. b ≢ 117) no_variable t s r e
 
 -- the factors stand from the first variable on
 pub simple_split : (t : Term) (s : IsSimpleTerm t) (sign : ℕ) (magnitude front factors : List ℕ) → term_text t ≡ sign ∷ magnitude → magnitude ≡ front ++ factors → IsVariable factors → AllByRecursion (λ b. b ≢ 117) front → starred t.0 ≡ 42 ∷ factors
@@ -282,21 +279,21 @@ variable_letters [] v = v
 variable_letters (b ∷ bs) v = omega (arith, v)
 
 -- the text before the factors is that of the coefficient
-pub simple_front : (t : Term) (s : IsSimpleTerm t) (sign : ℕ) (magnitude front factors : List ℕ) → term_text t ≡ sign ∷ magnitude → magnitude ≡ front ++ factors → starred t.0 ≡ 42 ∷ factors → simple_text s.power s.q factors ≡ sign ∷ (front ++ factors)
-simple_front t s sign magnitude front factors e split there = ap (λ z. signed_text (product_text s.q (body_of s.power ++ z))) (sym there) ∙ sym (simple_is t s) ∙ e ∙ ap (λ z. sign ∷ z) split
+pub simple_front : (t : Term) (s : IsSimpleTerm t) (sign : ℕ) (magnitude front factors : List ℕ) → term_text t ≡ sign ∷ magnitude → magnitude ≡ front ++ factors → starred t.0 ≡ 42 ∷ factors → before_factors t.1 factors ≡ sign ∷ (front ++ factors)
+simple_front t s sign magnitude front factors e split there = ap (λ z. signed_text (scaled_text t.1 z)) (sym there) ∙ sym (term_scaled t s.higher) ∙ e ∙ ap (λ z. sign ∷ z) split
 
 -- a term from what was read of it
-pub simple_read : (power : Power) (q : Frac) (m : Exp) (e : Ext Frac) (sign : ℕ) (magnitude front factors : List ℕ) → IsCoefficient q → simple_text power q factors ≡ sign ∷ (front ++ factors) → magnitude ≡ front ++ factors → IsTextOf IsMonomial starred (42 ∷ factors) m → e ≡ multiple power q
+pub simple_read : (e : Ext Frac) (m : Exp) (sign : ℕ) (magnitude front factors : List ℕ) → AreFractions e → IsSingle e → before_factors e factors ≡ sign ∷ (front ++ factors) → magnitude ≡ front ++ factors → IsTextOf IsMonomial starred (42 ∷ factors) m
     → IsTextOf IsSimpleTerm term_text (sign ∷ magnitude) (m, e)
-simple_read power q m e sign magnitude front factors ok text split is same =
-    let s : IsSimpleTerm (m, e) = record { power = power; q = q; coefficient = ok; is = same; monomial = is.0; higher = not_one m factors is.0 is.1 } in
-    (s, simple_is (m, e) s ∙ ap (λ z. signed_text (product_text q (body_of power ++ z))) is.1 ∙ text ∙ ap (λ z. sign ∷ z) (sym split))
+simple_read e m sign magnitude front factors ok single text split is =
+    let s : IsSimpleTerm (m, e) = record { fractions = ok; single = single; monomial = is.0; higher = not_one m factors is.0 is.1 } in
+    (s, term_scaled (m, e) s.higher ∙ ap (λ z. signed_text (scaled_text e z)) is.1 ∙ text ∙ ap (λ z. sign ∷ z) (sym split))
 
 -- the front of a sum up to the next sign is the term that stands there
 pub simple_cut : (t : Term) (s : IsSimpleTerm t) (sign : ℕ) (magnitude x y : List ℕ) → AllByRecursion (λ b. ¬ IsSign b) magnitude → Starts IsSign x → Starts IsSign y → sign ∷ (magnitude ++ x) ≡ term_text t ++ y → term_text t ≡ sign ∷ magnitude
 simple_cut t s sign magnitude x y free sx sy e =
     let f = factors_there t.0 s.monomial s.higher in
-    let p = simple_shape (λ b. ¬ IsSign b) unsigned (not_sign 116 (omega arith)) (not_sign 94 (omega arith)) t s f.0 f.1 in
+    let p = simple_shape (λ b. ¬ IsSign b) unsigned t s f.0 f.1 in
     let all : AllByRecursion (λ b. ¬ IsSign b) (p.1 ++ 117 ∷ f.0) = all_append (λ b. ¬ IsSign b) p.1 (117 ∷ f.0) p.2.inside (subst (AllByRecursion (λ b. ¬ IsSign b)) f.1 (factors_unsigned t.0 s.monomial s.higher)).1 in
     let k = head sign p.0 (magnitude ++ x) ((p.1 ++ 117 ∷ f.0) ++ y) (e ∙ ap (λ z. z ++ y) p.2.is) in
     let r = cut (λ b. ¬ IsSign b) IsSign (λ b i o. i o) magnitude (p.1 ++ 117 ∷ f.0) x y free all sx sy k.1 in
@@ -310,20 +307,30 @@ second (b ∷ bs) r y inside free e = free.0 (head b 40 ((bs ++ 117 ∷ r) ++ y)
 pub simple_open : (t : Term) (s : IsSimpleTerm t) (sign : ℕ) (inside y : List ℕ) → sign ∷ 40 ∷ inside ≡ term_text t ++ y → ⊥
 simple_open t s sign inside y e =
     let f = factors_there t.0 s.monomial s.higher in
-    let p = simple_shape (λ b. b ≢ 40) (other_than 40 (λ b d h. omega (arith, d.0, h)) (λ h. omega (arith, h)) (λ h. omega (arith, h))) (λ h. omega (arith, h)) (λ h. omega (arith, h)) t s f.0 f.1 in
+    let p = simple_shape (λ b. b ≢ 40) (other_than 40 (λ b d h. omega (arith, d.0, h)) (λ h. omega (arith, h)) (λ h. omega (arith, h)) (λ h. omega (arith, h)) (λ h. omega (arith, h)) (λ h. omega (arith, h))) t s f.0 f.1 in
     second p.1 f.0 y inside p.2.inside (head p.0 sign ((p.1 ++ 117 ∷ f.0) ++ y) (40 ∷ inside) (ap (λ z. z ++ y) (sym p.2.is) ∙ sym e)).1
 
 -- ---- more components
 
-pub component_all : (P : ℕ → Type 0) → Admits P → P 116 → P 94 → P 43 → P 45 → (power : Power) (t : Bool) (q : Frac) → IsTrue (is_frac q) → AllByRecursion P (flat_map signed_text (cond t [] (product_text q (body_of power) ∷ [])))
-component_all P adm t_is caret plus minus power true q valid = tt
-component_all P adm t_is caret plus minus power false q valid =
-    let p = piece_shape P adm t_is caret power q valid in
-    subst (AllByRecursion P) (sym (append-nil (signed_text (product_text q (body_of power))) ∙ p.2.is)) (by_sign p.0 p.2.sign, p.2.inside)
+component_all : (P : ℕ → Type 0) → Admits P → P 43 → P 45 → (t : Bool) (q : Frac) (body : List ℕ) → IsTrue (is_frac q) → IsBody body → AllByRecursion P body → AllByRecursion P (cond t [] (piece_text (q, body)))
+component_all P adm plus minus true q body valid is all = tt
+component_all P adm plus minus false q body valid is all =
+    let p = piece_shape P adm body q is all valid in
+    subst (AllByRecursion P) (sym p.2.is) (by_sign p.0 p.2.sign, p.2.inside)
   where
     by_sign : (b : ℕ) → IsSign b → P b
     by_sign b (inl e) = subst P (sym e) plus
     by_sign b (inr e) = subst P (sym e) minus
+
+-- the bytes of numbers before bodies
+pub numbers_all : (P : ℕ → Type 0) → Admits P → P 43 → P 45 → (qs : List Frac) (bodies : List (List ℕ)) → AreValid qs → AllByRecursion IsBody bodies → AllByRecursion (AllByRecursion P) bodies → AllByRecursion P (flat_map component_text (zip qs bodies))
+numbers_all P adm plus minus [] bodies valid are all = tt
+numbers_all P adm plus minus (q ∷ qs) [] valid are all = tt
+numbers_all P adm plus minus (q ∷ qs) (body ∷ bodies) valid are all =
+    all_append P (component_text (q, body)) (flat_map component_text (zip qs bodies)) (component_all P adm plus minus (is_zero_fraction q) q body valid.0 are.0 all.0) (numbers_all P adm plus minus qs bodies valid.1 are.1 all.1)
+
+pub components_all : (P : ℕ → Type 0) → Admits P → P 43 → P 45 → (e : Ext Frac) → AreFractions e → AllByRecursion P (components_text e)
+components_all P adm plus minus e ok = subst (AllByRecursion P) (sym (components_text_is e)) (numbers_all P adm plus minus (numbers e) letters ok elements.letters_are (letters_all P adm))
 
 pub without_all : (P : ℕ → Type 0) → P 48 → (xs : List ℕ) → AllByRecursion P xs → AllByRecursion P (without_plus xs)
 without_all P zero_is [] h = (zero_is, tt)
@@ -334,18 +341,13 @@ without_all P zero_is (b ∷ bs) h = by_test (eqb b 43)
     by_test false = h
 
 -- the bytes of an element
-pub element_all : (P : ℕ → Type 0) → Admits P → P 116 → P 94 → P 43 → P 45 → (e : Ext Frac) → AreFractions e → AllByRecursion P (element_text e)
+pub element_all : (P : ℕ → Type 0) → Admits P → P 43 → P 45 → (e : Ext Frac) → AreFractions e → AllByRecursion P (element_text e)
 unfolding element_text
-element_all P adm t_is caret plus minus e ok =
-    let a = component_all P adm t_is caret plus minus powers.One (is_zero_fraction e.c0) e.c0 ok.c0 in
-    let b = component_all P adm t_is caret plus minus powers.T (is_zero_fraction e.c1) e.c1 ok.c1 in
-    let c = component_all P adm t_is caret plus minus powers.Square (is_zero_fraction e.c2) e.c2 ok.c2 in
-    let all : AllByRecursion P (part0 e.c0 ++ (part1 e.c1 ++ (part2 e.c2 ++ []))) = all_append P (part0 e.c0) (part1 e.c1 ++ (part2 e.c2 ++ [])) a (all_append P (part1 e.c1) (part2 e.c2 ++ []) b (all_append P (part2 e.c2) [] c tt)) in
-    without_all P (adm.digit 48 (omega arith, omega arith)) (components_text e) (subst (AllByRecursion P) (sym (sym (append-nil (components_text e)) ∙ parts_are e [])) all)
+element_all P adm plus minus e ok = without_all P (adm.digit 48 (omega arith, omega arith)) (components_text e) (components_all P adm plus minus e ok)
 
 -- no parenthesis in an element
 pub element_closed : (e : Ext Frac) → AreFractions e → AllByRecursion (λ b. b ≢ 41) (element_text e)
-element_closed e ok = element_all (λ b. b ≢ 41) (other_than 41 (λ b d h. omega (arith, d.0, h)) (λ h. omega (arith, h)) (λ h. omega (arith, h))) (λ h. omega (arith, h)) (λ h. omega (arith, h)) (λ h. omega (arith, h)) (λ h. omega (arith, h)) e ok
+element_closed e ok = element_all (λ b. b ≢ 41) (other_than 41 (λ b d h. omega (arith, d.0, h)) (λ h. omega (arith, h)) (λ h. omega (arith, h)) (λ h. omega (arith, h)) (λ h. omega (arith, h)) (λ h. omega (arith, h))) (λ h. omega (arith, h)) (λ h. omega (arith, h)) e ok
 
 pub bracket_cut : (e : Ext Frac) (bytes inside behind rest : List ℕ) → AreFractions e → bytes ≡ inside ++ 41 ∷ behind → AllByRecursion (λ b. b ≢ 41) inside → bytes ≡ element_text e ++ 41 ∷ rest → element_text e ≡ inside
 bracket_cut e bytes inside behind rest ok split free h = (cut_at 41 (element_text e) inside rest behind (element_closed e ok) free (sym h ∙ split)).0
@@ -401,15 +403,96 @@ unopened t sign behind rest h e none = elim (term_cases t h) [ inl s ↦ s | inr
 pub opened : (t : Term) (sign : ℕ) (inside rest : List ℕ) → IsHigherTerm t → sign ∷ 40 ∷ inside ≡ term_text t ++ rest → IsLongTerm t
 opened t sign inside rest h e = elim (term_cases t h) [ inl s ↦ absurd (simple_open t s sign inside rest e) | inr s ↦ s ]
 
-pub letters_more : (letters more : List ℕ) → IsLetters letters → IsLetters (letters ++ more)
-letters_more [] more h = absurd h
-letters_more (b ∷ bs) more h = h
+-- ---- the coefficient by what stands before the factors
 
--- the letters stand at the end of what stands before others
-pub behind_end : (q : Frac) (sign : ℕ) (front letters more : List ℕ) → IsCoefficient q → IsLetters letters → signed_text (product_text q (42 ∷ (letters ++ more))) ≡ sign ∷ (front ++ more) → (g : List ℕ) × (front ≡ g ++ letters)
-behind_end q sign front letters more ok h e =
-    let g = ends_with q (letters ++ more) sign (front ++ more) ok.0 (letters_more letters more h) e in
-    (g.0, append_cancel_right front (g.0 ++ letters) more (g.1 ∙ sym (append_assoc g.0 letters more)))
+-- a coefficient that is written before a star, from its text
+pub record EndsInStar (e : Ext Frac) (sign : ℕ) (front m : List ℕ) : Type 0 where
+  pub ends : front ≡ m ++ 42 ∷ []
+  pub written : IsWritten e
+  pub text : components_text e ≡ sign ∷ m
+
+star_there : (e : Ext Frac) (q : Frac) (body : List ℕ) (sign : ℕ) (front factors : List ℕ) → without_zeros (components e) ≡ (q, body) ∷ [] → IsCoefficient q → IsBody body → IsLetters factors → (front ≡ [] → ⊥)
+    → signed_text (product_text q (body ++ 42 ∷ factors)) ≡ sign ∷ (front ++ factors) → (m : List ℕ) × EndsInStar e sign front m
+star_there e q [] sign front factors one ok is h some text = by_front (front_of q factors sign front ok h text)
+  where
+    by_front : Front q sign front → (m : List ℕ) × EndsInStar e sign front m
+    by_front (unit u s none) = absurd (some none)
+    by_front (written m u t end) = (m, record { ends = end; written = record { piece = (q, []); only = one; longer = λ none. u }; text = single_components e (q, []) one ∙ t })
+star_there e q (star ∷ []) sign front factors one ok is h some text = absurd is
+star_there e q (star ∷ c ∷ r) sign front factors one ok is h some text =
+    let body : List ℕ = star ∷ c ∷ r in
+    let f = signed_list (piece_text (q, body)) (sign_of (product_text q body)) in
+    let whole : f.0 ∷ (f.1 ++ 42 ∷ factors) ≡ sign ∷ (front ++ factors) = ap (λ z. z ++ 42 ∷ factors) (sym f.2) ∙ sym (star_text q body factors ok.0 is (λ none. absurd cc)) ∙ text in
+    let k = head f.0 sign (f.1 ++ 42 ∷ factors) (front ++ factors) whole in
+    let ends : front ≡ f.1 ++ 42 ∷ [] = sym (append_cancel_right (f.1 ++ 42 ∷ []) front factors (append_assoc f.1 (42 ∷ []) factors ∙ k.1)) in
+    (f.1, record { ends = ends; written = record { piece = (q, body); only = one; longer = λ none. absurd cc }; text = single_components e (q, body) one ∙ f.2 ∙ ap (λ (b : ℕ). b ∷ f.1) k.0 })
+
+pub front_ends : (e : Ext Frac) (sign : ℕ) (front factors : List ℕ) → AreFractions e → IsSingle e → IsLetters factors → (front ≡ [] → ⊥) → before_factors e factors ≡ sign ∷ (front ++ factors) → (m : List ℕ) × EndsInStar e sign front m
+front_ends e sign front factors ok single h some text =
+    let is = single_piece IsBody elements.letters_are e ok single.0 single.1 in
+    star_there e single.0.0 single.0.1 sign front factors single.1 is.0 is.1 h some (ap signed_text (sym (single_scaled e single.0 (42 ∷ factors) single.1)) ∙ text)
+
+-- a coefficient begins with a sign
+pub front_sign : (e : Ext Frac) (sign : ℕ) (front factors : List ℕ) → AreFractions e → IsSingle e → IsLetters factors → before_factors e factors ≡ sign ∷ (front ++ factors) → IsSign sign
+front_sign e sign front factors ok single h text =
+    let p = single_shape (λ b. ¬ IsSign b) unsigned e factors ok single h in
+    subst IsSign (head p.0 sign (p.1 ++ factors) (front ++ factors) (sym p.2.is ∙ text)).0 p.2.sign
+
+-- what stands before the star is what was read there
+pub written_there : (e : Ext Frac) (sign : ℕ) (front m magnitude : List ℕ) → EndsInStar e sign front m → front ≡ magnitude ++ 42 ∷ [] → components_text e ≡ sign ∷ magnitude
+written_there e sign front m magnitude s split = s.text ∙ ap (λ z. sign ∷ z) (append_cancel_right m magnitude (42 ∷ []) (sym s.ends ∙ split))
+
+-- the text of a written coefficient, with a star and letters behind it
+pub written_front : (e : Ext Frac) (sign : ℕ) (front magnitude factors : List ℕ) → AreFractions e → (w : IsWritten e) → components_text e ≡ sign ∷ magnitude → front ≡ magnitude ++ 42 ∷ [] → before_factors e factors ≡ sign ∷ (front ++ factors)
+written_front e sign front magnitude factors ok w text split =
+    let is = single_piece IsBody elements.letters_are e ok w.piece w.only in
+    ap signed_text (single_scaled e w.piece (42 ∷ factors) w.only)
+    ∙ star_text w.piece.0 w.piece.1 factors is.0.0 is.1 w.longer
+    ∙ ap (λ z. z ++ 42 ∷ factors) (sym (single_components e w.piece w.only) ∙ text)
+    ∙ ap (λ z. sign ∷ z) (sym (append_assoc magnitude (42 ∷ []) factors) ∙ ap (λ z. z ++ factors) (sym split))
+
+pub written_front_all : (sign : ℕ) (front magnitude : List ℕ) (r : Option (Ext Frac)) → front ≡ magnitude ++ 42 ∷ [] → IfSome r (λ e. AreFractions e × IsWritten e × (components_text e ≡ sign ∷ magnitude))
+    → IfSome r (λ e. AreFractions e × IsSingle e × ((factors : List ℕ) → IsLetters factors → before_factors e factors ≡ sign ∷ (front ++ factors)))
+written_front_all sign front magnitude None split h = tt
+written_front_all sign front magnitude (Some e) split h = (h.0, (h.1.piece, h.1.only), λ factors f. written_front e sign front magnitude factors h.0 h.1 h.2 split)
+
+-- 1 and -1 as an element
+rational_only : (q : Frac) → IsCoefficient q → without_zeros (components (rational_element q)) ≡ (q, []) ∷ []
+rational_only q ok = ap (λ (t : Bool). cond (not t) ((q, []) ∷ []) []) (not_zero q ok)
+
+pub unit_read : (q : Frac) (e : Ext Frac) (sign : ℕ) (front : List ℕ) → e ≡ rational_element q → IsCoefficient q → ((letters : List ℕ) → IsLetters letters → signed_text (product_text q (42 ∷ letters)) ≡ sign ∷ letters) → front ≡ []
+    → AreFractions e × IsSingle e × ((factors : List ℕ) → IsLetters factors → before_factors e factors ≡ sign ∷ (front ++ factors))
+unit_read q e sign front is ok text none =
+    let only : without_zeros (components e) ≡ (q, []) ∷ [] = ap (λ (x : Ext Frac). without_zeros (components x)) is ∙ rational_only q ok in (
+      subst AreFractions (sym is) (rational_fractions q ok.0),
+      ((q, []), only),
+      λ factors f. ap signed_text (single_scaled e (q, []) (42 ∷ factors) only) ∙ text factors f ∙ ap (λ z. sign ∷ (z ++ factors)) (sym none),
+    )
+
+pub no_unit : (sign : ℕ) → IsSign sign → (sign ≢ 43) × (sign ≢ 45) → ⊥
+no_unit sign (inl e) h = h.0 e
+no_unit sign (inr e) h = h.1 e
+
+-- ---- the test whether a coefficient is written
+
+not_not : (r : Bool) → not r ≡ true → r ≡ false
+not_not true h = absurd cc
+not_not false h = refl
+
+same_piece : (p q : Piece) → p ∷ [] ≡ q ∷ [] → p ≡ q
+same_piece p q e = cc
+
+pub unit_written : (e : Ext Frac) (q : Frac) (body : List ℕ) (r : Bool) → without_zeros (components e) ≡ (q, body) ∷ [] → body ≡ [] → r ≡ is_unit_of q → (not r ≡ true → IsWritten e) × (IsWritten e → not r ≡ true)
+unit_written e q body r one empty test = (
+  λ h. record { piece = (q, body); only = one; longer = λ none. sym test ∙ not_not r h },
+  λ w.
+      (let same : (q, body) ≡ w.piece = same_piece (q, body) w.piece (sym one ∙ w.only) in
+      let bare : w.piece.1 ≡ [] = sym (ap (λ (p : Piece). p.1) same) ∙ empty in
+      ap not (test ∙ ap (λ (p : Piece). is_unit_of p.0) same ∙ w.longer bare)),
+)
+
+pub letters_written : (e : Ext Frac) (q : Frac) (body : List ℕ) → without_zeros (components e) ≡ (q, body) ∷ [] → (body ≡ [] → ⊥) → IsWritten e
+letters_written e q body one some = record { piece = (q, body); only = one; longer = λ none. absurd (some none) }
 
 -- what stands from the first u on
 pub variable_from : (xs : List ℕ) (at : ℕ) → Some at ≡ position (λ b. eqb b 117) xs
@@ -421,11 +504,10 @@ variable_from xs at e =
     let there = same_front (take at xs) (drop at xs) (117 ∷ take (length xs - (at + 1)) (drop (at + 1) xs)) (whole ∙ h.0) in
     (sym whole ∙ ap (λ z. take at xs ++ z) (sym all), subst IsVariable (sym (all ∙ there)) refl, h.1)
 
--- the text of a coefficient with one component, as a product with letters
-pub simple_product : (t : Term) (s : IsSimpleTerm t) (r : List ℕ) → starred t.0 ≡ 42 ∷ 117 ∷ r → (letters : List ℕ) × (0 < length letters) × (term_text t ≡ signed_text (product_text s.q (42 ∷ letters)))
-simple_product t s r e = (before s.power ++ 117 ∷ r, some s.power, simple_is t s ∙ ap (λ z. signed_text (product_text s.q (body_of s.power ++ z))) e ∙ ap (λ z. signed_text (product_text s.q z)) (body_split s.power (117 ∷ r)))
-  where
-    some : (power : Power) → 0 < length (before power ++ 117 ∷ r)
-    some powers.One = omega arith
-    some powers.T = omega arith
-    some powers.Square = omega arith
+-- the text of a coefficient with one component, as a product
+pub simple_product : (t : Term) (s : IsSimpleTerm t) → (f : List ℕ) × (0 < length f) × (term_text t ≡ signed_text f)
+simple_product t s =
+    let p = s.single.0 in
+    let is = single_piece IsBody elements.letters_are t.1 s.fractions p s.single.1 in
+    let body = longer_body p.1 (starred t.0) is.1 (starred_front t.0 s.monomial s.higher) in
+    (product_text p.0 (p.1 ++ starred t.0), some_product p.0 (p.1 ++ starred t.0) is.0.0 body, simple_is t s)

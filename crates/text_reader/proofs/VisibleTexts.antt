@@ -1,7 +1,7 @@
 -- The bytes of the small texts are visible: none is a blank or a newline.
-use Rattle.std.proofs.Common.{◌≡◌, ℕ, suc, ◌<◌, Bool, true, false, ◌&&◌, ◌⊎◌, inl, inr, ℤ, pos, negsuc, List, [], ◌∷◌, ◌++◌, refl, sym, ap, ◌∙◌, subst, append-nil, arith, IsTrue}
-use Rattle.std.specs.Prelude.{decimal, sum, nat_le}
-use Rattle.std.specs.List.{AllByRecursion}
+use Rattle.std.proofs.Common.{◌≡◌, ℕ, suc, ◌<◌, ◌≤◌, Bool, true, false, cond, eqb, ◌&&◌, ◌⊎◌, inl, inr, ℤ, pos, negsuc, List, [], ◌∷◌, ◌++◌, refl, sym, ap, ◌∙◌, subst, append-nil, arith, IsTrue}
+use Rattle.std.specs.Prelude.{codes, decimal, sum, nat_le}
+use Rattle.std.specs.List.{AllByRecursion, flat_map, zip}
 use Rattle.std.specs.Fmt.{signed_decimal}
 use Rattle.ring_law.specs.declared.fraction.Frac.{Frac}
 use Rattle.ext_algebra.specs.declared.algebra.Algebra.{Algebra}
@@ -12,32 +12,32 @@ use Rattle.ext_algebra.specs.Fractions.{is_frac}
 use Rattle.mono_exp.specs.declared.exponent.Exp.{Exp}
 use Rattle.jet_poly.specs.JetTerms.{JetTerms}
 use Rattle.poly_text.specs.declared.name.Name.{Name}
-use Rattle.poly_text.specs.Numbers.{components_text, element_text, fraction_text, is_zero_fraction, over_text}
+use Rattle.poly_text.specs.Numbers.{component_text, components_text, element_text, fraction_text, over_text}
 use Rattle.poly_text.specs.Polynomials.{is_one, jet_text, monomial_in, monomial_text, name_text, polynomial_in, without_star}
-use Rattle.cert_text.specs.Text.{algebra_text}
+use Rattle.cert_text.specs.Text.{algebra_text, cubic_text, opposite_text, other_sign, square_text}
 use Rattle.cert_text.specs.WellFormed.{is_monomial_in, is_valid_name, IsJetOf}
-use Rattle.cert_law.specs.Fields.{IsInside, IsMonomial}
+use Rattle.cert_law.specs.Fields.{IsBody, IsInside, IsMonomial}
 use Rattle.cert_law.proofs.Jets.{factors_inside, starred_front}
 use Rattle.cert_law.proofs.Monomials.{starred}
 use Rattle.cert_law.proofs.Numbers.{all_append}
 use Rattle.cert_law.proofs.Parts.{IsNameByte, name_by, name_bytes}
 use Rattle.cert_law.proofs.Series.{no_factors}
 use Rattle.cert_law.proofs.Valid.{all_to, both}
-use Rattle.text_reader.specs.declared.piece.Power.TheVariants as powers
 use Rattle.text_reader.specs.Digits.{is_natural}
-use Rattle.text_reader.specs.Pieces.{AreFractions, IsSign}
+use Rattle.text_reader.specs.Moduli.{AreThree, IsQuadratic}
+use Rattle.text_reader.specs.Pieces.{AreFractions, AreValid, IsSign}
 use Rattle.text_reader.specs.Terms.{IsHigherTerm, IsLongTerm, IsSimpleTerm, term_text, terms_text}
 use Rattle.text_reader.proofs.ComponentTexts.{Admits, natural_all}
-use Rattle.text_reader.proofs.ElementTexts.{element_fractions, part0, part1, part2, parts_are}
+use Rattle.text_reader.proofs.ElementTexts.{element_fractions}
 use Rattle.text_reader.proofs.Fractions.{minus_is, opposite_of}
-use Rattle.text_reader.proofs.ModulusTexts.{cubic_text, quadratic_text}
+use Rattle.text_reader.proofs.ModulusTexts.{cubic_bodies, cubic_letters, cubic_three, quadratic_bodies, quadratic_letters, three_valid, tower_three}
 use Rattle.text_reader.proofs.MonomialTexts.{monomial_valid}
 use Rattle.text_reader.proofs.PolynomialTexts.{constant_more, jet_terms, split_constant}
-use Rattle.text_reader.proofs.TermTexts.{component_all, element_all, factors_there, long_is, simple_shape, term_cases, without_all}
+use Rattle.text_reader.proofs.TermTexts.{components_all, element_all, factors_there, long_is, numbers_all, simple_shape, term_cases, without_all}
 use Rattle.text_reader.proofs.Visible.{IsVisible}
 
 visible : Admits IsVisible
-visible = record { digit = λ b d. omega (arith, d.0); slash = omega arith; star = omega arith }
+visible = record { digit = λ b d. omega (arith, d.0); slash = omega arith; star = omega arith; caret = omega arith; s = omega arith; t = omega arith }
 
 -- ---- fractions and elements
 
@@ -51,41 +51,69 @@ fraction_by (negsuc n) q e valid =
 pub visible-fraction : (q : Frac) → IsTrue (is_frac q) → AllByRecursion IsVisible (fraction_text q)
 visible-fraction q valid = fraction_by q.num q refl valid
 
-part_visible0 : (q : Frac) → IsTrue (is_frac q) → AllByRecursion IsVisible (part0 q)
-part_visible0 q valid = component_all IsVisible visible (omega arith) (omega arith) (omega arith) (omega arith) powers.One (is_zero_fraction q) q valid
-
-part_visible1 : (q : Frac) → IsTrue (is_frac q) → AllByRecursion IsVisible (part1 q)
-part_visible1 q valid = component_all IsVisible visible (omega arith) (omega arith) (omega arith) (omega arith) powers.T (is_zero_fraction q) q valid
-
-part_visible2 : (q : Frac) → IsTrue (is_frac q) → AllByRecursion IsVisible (part2 q)
-part_visible2 q valid = component_all IsVisible visible (omega arith) (omega arith) (omega arith) (omega arith) powers.Square (is_zero_fraction q) q valid
-
 components_visible : (e : Ext Frac) → AreFractions e → AllByRecursion IsVisible (components_text e)
-components_visible e ok =
-    let all : AllByRecursion IsVisible (part0 e.c0 ++ (part1 e.c1 ++ (part2 e.c2 ++ []))) =
-    all_append IsVisible (part0 e.c0) (part1 e.c1 ++ (part2 e.c2 ++ [])) (part_visible0 e.c0 ok.c0) (all_append IsVisible (part1 e.c1) (part2 e.c2 ++ []) (part_visible1 e.c1 ok.c1) (all_append IsVisible (part2 e.c2) [] (part_visible2 e.c2 ok.c2) tt)) in
-    subst (AllByRecursion IsVisible) (sym (sym (append-nil (components_text e)) ∙ parts_are e [])) all
+components_visible e ok = components_all IsVisible visible (omega arith) (omega arith) e ok
 
 pub visible-components : (e : Ext Frac) → AreFractions e → AllByRecursion IsVisible (element_text e)
-visible-components e ok = element_all IsVisible visible (omega arith) (omega arith) (omega arith) (omega arith) e ok
+visible-components e ok = element_all IsVisible visible (omega arith) (omega arith) e ok
 
 pub visible-element : (a : Algebra) (e : Ext Frac) → IsTrue (is_element a e) → AllByRecursion IsVisible (element_text e)
 visible-element a e h = visible-components e (element_fractions a e h).0
 
 -- ---- algebras
 
-pub visible-algebra : (a : Algebra) → IsTrue (is_algebra a) → AllByRecursion IsVisible (algebra_text a)
+-- numbers before powers of t
+visible_numbers : (qs : List Frac) (bodies : List (List ℕ)) → AreValid qs → AllByRecursion IsBody bodies → AllByRecursion (AllByRecursion IsVisible) bodies → AllByRecursion IsVisible (flat_map component_text (zip qs bodies))
+visible_numbers qs bodies valid are all = numbers_all IsVisible visible (omega arith) (omega arith) qs bodies valid are all
+
+visible_t : AllByRecursion IsVisible (codes "*t")
+visible_t = (omega arith, (omega arith, tt))
+
+visible_square : AllByRecursion IsVisible (codes "*t^2")
+visible_square = (omega arith, (omega arith, (omega arith, (omega arith, tt))))
+
+pub visible-quadratic : (a : Algebra) → IsQuadratic a → AllByRecursion IsVisible (algebra_text a)
+unfolding algebra_text
+visible-quadratic algebras.Rational h = absurd h
+visible-quadratic (algebras.Quadratic m1 m0) h = (omega arith, (omega arith, (omega arith, visible_numbers (m1 ∷ m0 ∷ []) quadratic_letters (h.0, (h.1, tt)) quadratic_bodies.0 (visible_t, (tt, tt)))))
+visible-quadratic (algebras.Cubic m2 m1 m0) h = absurd h
+visible-quadratic (algebras.Tower m2 m1 m0 d) h = absurd h
+
+pub visible-cubic : (m : Frac × Frac × Frac) → AreThree m → AllByRecursion IsVisible (cubic_text m.0 m.1 m.2)
+visible-cubic m h = (omega arith, (omega arith, (omega arith, visible_numbers (m.0 ∷ m.1 ∷ m.2 ∷ []) cubic_letters (three_valid m h) cubic_bodies.0 (visible_square, (visible_t, (tt, tt))))))
+
+-- a blank or a byte above
+abbrev pub IsPrinted : ℕ → Type 0
+IsPrinted b = 32 ≤ b
+
+printed : (bs : List ℕ) → AllByRecursion IsVisible bs → AllByRecursion IsPrinted bs
+printed bs all = all_to IsVisible IsPrinted (λ b le. omega (arith, le)) bs all
+
+sign_printed : (b : ℕ) → IsVisible b → IsPrinted (other_sign b)
+sign_printed b le = by_tests (eqb b 43) (eqb b 45)
+  where
+    by_tests : (s t : Bool) → IsPrinted (cond s 45 (cond t 43 b))
+    by_tests true t = omega arith
+    by_tests false true = omega arith
+    by_tests false false = omega (arith, le)
+
+opposite_printed : (bs : List ℕ) → AllByRecursion IsVisible bs → AllByRecursion IsPrinted (opposite_text bs)
+opposite_printed [] all = tt
+opposite_printed (b ∷ bs) all = (sign_printed b all.0, printed bs all.1)
+
+square_printed : (d : Frac) → IsTrue (is_frac d) → AllByRecursion IsPrinted (square_text d)
+square_printed d valid =
+    let piece : AllByRecursion IsVisible (component_text (d, [])) = subst (AllByRecursion IsVisible) (append-nil (component_text (d, []))) (visible_numbers (d ∷ []) ([] ∷ []) (valid, tt) (tt, tt) (tt, tt)) in
+    (omega arith, (omega arith, (omega arith, (omega arith, (omega arith, (omega arith, opposite_printed (component_text (d, [])) piece))))))
+
+pub printed-algebra : (a : Algebra) → IsTrue (is_algebra a) → AllByRecursion IsPrinted (algebra_text a)
 unfolding algebra_text is_algebra
-visible-algebra algebras.Rational h = (omega arith, tt)
-visible-algebra (algebras.Quadratic m1 m0) h =
-    let p = both (is_frac m1) (is_frac m0) h in
-    subst (AllByRecursion IsVisible) (sym (quadratic_text m1 m0))
-    (omega arith, (omega arith, (omega arith, all_append IsVisible (part1 m1) (part0 m0 ++ []) (part_visible1 m1 p.0) (all_append IsVisible (part0 m0) [] (part_visible0 m0 p.1) tt))))
-visible-algebra (algebras.Cubic m2 m1 m0) h =
-    let p = both (is_frac m2) (is_frac m1 && is_frac m0) h in
-    let q = both (is_frac m1) (is_frac m0) p.1 in
-    subst (AllByRecursion IsVisible) (sym (cubic_text m2 m1 m0))
-    (omega arith, (omega arith, (omega arith, all_append IsVisible (part2 m2) (part1 m1 ++ (part0 m0 ++ [])) (part_visible2 m2 p.0) (all_append IsVisible (part1 m1) (part0 m0 ++ []) (part_visible1 m1 q.0) (all_append IsVisible (part0 m0) [] (part_visible0 m0 q.1) tt)))))
+printed-algebra algebras.Rational h = (omega arith, tt)
+printed-algebra (algebras.Quadratic m1 m0) h = printed (algebra_text (algebras.Quadratic m1 m0)) (visible-quadratic (algebras.Quadratic m1 m0) (both (is_frac m1) (is_frac m0) h))
+printed-algebra (algebras.Cubic m2 m1 m0) h = printed (cubic_text m2 m1 m0) (visible-cubic (m2, m1, m0) (cubic_three m2 m1 m0 h))
+printed-algebra (algebras.Tower m2 m1 m0 d) h =
+    let p = tower_three m2 m1 m0 d h in
+    all_append IsPrinted (cubic_text m2 m1 m0) (square_text d) (printed (cubic_text m2 m1 m0) (visible-cubic (m2, m1, m0) p.0)) (square_printed d p.1)
 
 -- ---- names and monomials
 
@@ -128,7 +156,7 @@ term_visible t h = by_case (term_cases t h)
     by_case : IsSimpleTerm t ⊎ IsLongTerm t → AllByRecursion IsVisible (term_text t)
     by_case (inl s) =
         let r = factors_there t.0 s.monomial s.higher in
-        let p = simple_shape IsVisible visible (omega arith) (omega arith) t s r.0 r.1 in
+        let p = simple_shape IsVisible visible t s r.0 r.1 in
         let more = subst (AllByRecursion IsVisible) r.1 (factors_visible t.0 s.monomial s.higher) in
         subst (AllByRecursion IsVisible) (sym p.2.is) (sign_visible p.0 p.2.sign, all_append IsVisible p.1 (117 ∷ r.0) p.2.inside more.1)
     by_case (inr s) =

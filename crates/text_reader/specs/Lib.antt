@@ -4,5 +4,6 @@ pub mod Names
 pub mod Numbers
 pub mod Factors
 pub mod Pieces
+pub mod Elements
 pub mod Moduli
 pub mod Terms

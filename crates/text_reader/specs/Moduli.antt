@@ -1,5 +1,6 @@
--- The algebras that a modulus gives.
+-- The modulus lines with a number, and what a modulus of t is read as.
 use Rattle.std.specs.Prelude.{IsTrue}
+use Rattle.ring_law.specs.declared.fraction.Frac.{Frac}
 use Rattle.ext_algebra.specs.declared.algebra.Algebra.{Algebra}
 use Rattle.ext_algebra.specs.declared.algebra.Algebra.TheVariants as algebras
 use Rattle.ext_algebra.specs.Fractions.{is_frac}
@@ -12,12 +13,11 @@ abbrev pub IsQuadratic : Algebra → Type 0
 IsQuadratic algebras.Rational = ⊥
 IsQuadratic (algebras.Quadratic m1 m0) = IsTrue (is_frac m1) × IsTrue (is_frac m0)
 IsQuadratic (algebras.Cubic m2 m1 m0) = ⊥
+IsQuadratic (algebras.Tower m2 m1 m0 d) = ⊥
 
--- a modulus of degree 3 with valid coefficients
-abbrev pub IsCubic : Algebra → Type 0
-IsCubic algebras.Rational = ⊥
-IsCubic (algebras.Quadratic m1 m0) = ⊥
-IsCubic (algebras.Cubic m2 m1 m0) = IsTrue (is_frac m2) × IsTrue (is_frac m1) × IsTrue (is_frac m0)
+-- three valid fractions
+abbrev pub AreThree : Frac × Frac × Frac → Type 0
+AreThree m = IsTrue (is_frac m.0) × IsTrue (is_frac m.1) × IsTrue (is_frac m.2)
 
 -- a line with a valid value or j invariant
 abbrev pub IsNumberLine : Algebra → ModulusLine → Type 0

@@ -1,33 +1,35 @@
 -- The terms of a polynomial that are not constant.
-use Rattle.std.specs.Prelude.{◌≡◌, ℕ, ◌<◌, Bool, true, false, IsTrue, List, [], ◌∷◌, ◌++◌, if◌then◌else◌}
+use Rattle.std.specs.Prelude.{◌≡◌, ℕ, ◌<◌, Bool, true, false, IsTrue, List, [], ◌∷◌, ◌++◌, length, if◌then◌else◌}
 use Rattle.std.specs.List.{flat_map, list_all}
 use Rattle.ring_law.specs.declared.fraction.Frac.{Frac}
 use Rattle.ext_algebra.specs.declared.algebra.Algebra.{Algebra}
 use Rattle.ext_algebra.specs.declared.algebra.Ext.{Ext}
 use Rattle.mono_exp.specs.declared.exponent.Exp.{Exp}
 use Rattle.mono_exp.specs.Exponents.{is_before}
-use Rattle.poly_text.specs.Numbers.{component_count_of, product_text, signed_text}
+use Rattle.poly_text.specs.Numbers.{Piece, components, scaled_text, signed_text, without_zeros}
 use Rattle.poly_text.specs.Polynomials.{is_one, new_names, term_in}
 use Rattle.jet_poly.specs.JetTerms.{IsRising}
 use Rattle.cert_text.specs.WellFormed.{is_term_of, is_zero_element}
-use Rattle.cert_law.specs.Fields.{IsMonomial, zero_fraction}
-use Rattle.text_reader.specs.declared.piece.Power.{Power}
-use Rattle.text_reader.specs.declared.piece.Power.TheVariants as powers
-use Rattle.text_reader.specs.Pieces.{AreFractions, IsCoefficient, body_of}
+use Rattle.cert_law.specs.Fields.{IsMonomial}
+use Rattle.text_reader.specs.Pieces.{AreFractions, is_unit_of}
 
--- q times a power of t
-abbrev pub multiple : Power → Frac → Ext Frac
-multiple powers.One q = record { c0 = q; c1 = zero_fraction; c2 = zero_fraction }
-multiple powers.T q = record { c0 = zero_fraction; c1 = q; c2 = zero_fraction }
-multiple powers.Square q = record { c0 = zero_fraction; c1 = zero_fraction; c2 = q }
+-- one component is not 0
+abbrev pub IsSingle : Ext Frac → Type 0
+IsSingle e = (p : Piece) × (without_zeros (components e) ≡ p ∷ [])
 
 -- more than one component is not 0
 abbrev pub IsLong : Ext Frac → Type 0
-IsLong e = 1 < component_count_of e
+IsLong e = 1 < length (without_zeros (components e))
 
--- a coefficient of one component before letters
-abbrev pub simple_text : Power → Frac → List ℕ → List ℕ
-simple_text power q letters = signed_text (product_text q (body_of power ++ 42 ∷ letters))
+-- one component is not 0, and it is not 1 or -1 alone
+pub record IsWritten (e : Ext Frac) : Type 0 where
+  pub piece : Piece
+  pub only : without_zeros (components e) ≡ piece ∷ []
+  pub longer : piece.1 ≡ [] → is_unit_of piece.0 ≡ false
+
+-- the coefficient of a term with its sign before it, and the factors
+abbrev pub before_factors : Ext Frac → List ℕ → List ℕ
+before_factors e factors = signed_text (scaled_text e (42 ∷ factors))
 
 -- a term that is not constant
 abbrev pub term_text : Exp × Ext Frac → List ℕ
@@ -42,10 +44,8 @@ pub record IsHigherTerm (t : Exp × Ext Frac) : Type 0 where
 
 -- its coefficient has one component
 pub record IsSimpleTerm (t : Exp × Ext Frac) : Type 0 where
-  pub power : Power
-  pub q : Frac
-  pub coefficient : IsCoefficient q
-  pub is : t.1 ≡ multiple power q
+  pub fractions : AreFractions t.1
+  pub single : IsSingle t.1
   pub monomial : IsMonomial t.0
   pub higher : is_one t.0 ≡ false
 

@@ -15,8 +15,8 @@ mod splitting;
 mod term;
 mod word;
 
-pub use algebra::{read_algebra, read_modulus};
-pub use element::read_element;
+pub use algebra::read_algebra;
+pub use element::{is_zero, read_element};
 pub use family::read_family;
 pub use fraction::read_fraction;
 pub use modulus_line::read_modulus_line;

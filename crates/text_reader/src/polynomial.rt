@@ -12,7 +12,7 @@ ghost use Rattle.text_reader.specs.Reading.{IsTextOf, IsNoText};
 ghost use Rattle.text_reader.specs.Pieces.{joined, AreFractions};
 ghost use Rattle.text_reader.specs.Terms.{is_after_last, constant_terms, AreTermsOf, terms_text, IsHigherTerm};
 
-use crate::element::{signed, take_element, vanishes_past};
+use crate::element::{is_zero, signed, take_element, vanishes_past};
 use crate::monomial::is_within;
 use crate::splitting::is_text;
 use crate::term::take_term;
@@ -21,13 +21,6 @@ use jet_poly::Jet;
 use mono_exp::{Exp, before};
 use ring_law::{Frac, NoMemory};
 use std::alloc::Global;
-
-// All three components are 0.
-fn is_zero(e: Ext<Frac>) -> bool
-    ensures { result ≡ is_zero_element e }
-{
-    e.c0.num == 0 && e.c1.num == 0 && e.c2.num == 0
-}
 
 // An element of the algebra other than 0.
 fn is_coefficient(a: Algebra, e: Ext<Frac>) -> bool

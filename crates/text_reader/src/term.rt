@@ -5,85 +5,65 @@ ghost use Rattle.std.specs.List.{AllByRecursion};
 ghost use Rattle.ring_law.specs.declared.fraction.Frac.{Frac};
 ghost use Rattle.ext_algebra.specs.declared.algebra.Ext.{Ext};
 ghost use Rattle.mono_exp.specs.declared.exponent.Exp.{Exp};
-ghost use Rattle.poly_text.specs.Numbers.{element_text, product_text, signed_text};
+ghost use Rattle.poly_text.specs.Numbers.{components_text, element_text};
 ghost use Rattle.poly_text.specs.Polynomials.{is_one, factors_text, new_names};
 ghost use Rattle.cert_law.specs.Fields.{IsMonomial};
 ghost use Rattle.cert_law.specs.Unique.{Starts};
-ghost use Rattle.text_reader.specs.declared.piece.Power.{Power};
 ghost use Rattle.text_reader.specs.Reading.{IsTextOf, IsNoText};
-ghost use Rattle.text_reader.specs.Pieces.{joined, IsSign, IsCoefficient, IsLetters, AreFractions};
-ghost use Rattle.text_reader.specs.Terms.{multiple, IsLong, simple_text, term_text, IsHigherTerm, IsSimpleTerm, IsLongTerm, IsVariable};
+ghost use Rattle.text_reader.specs.Pieces.{joined, IsSign, IsLetters, AreFractions};
+ghost use Rattle.text_reader.specs.Terms.{before_factors, IsLong, IsSingle, IsWritten, term_text, IsHigherTerm, IsSimpleTerm, IsLongTerm, IsVariable};
 
-use crate::element::read_components;
+use crate::element::{is_zero, rational, read_components, take_element};
 use crate::monomial::read_factors;
-use crate::piece::{Power, read_coefficient};
+use crate::piece::{is_unit, unit_of};
 use crate::splitting::{place_of, split_at_byte, split_before_sign, strip_end, strip_front};
 use ext_algebra::Ext;
 use mono_exp::Exp;
+use poly_text::only_component;
 use ring_law::Frac;
 
-// q times a power of t.
-fn multiple_of(power: Power, q: Frac) -> Ext<Frac>
-    ensures { result ≡ multiple power q }
+// One component is not 0, and it is not 1 or -1 alone.
+fn is_written(e: Ext<Frac>) -> bool
+    ensures { IsTrue result ↔ IsWritten e }
 {
-    let zero = Frac { num: 0, den: 1 };
-    match power {
-        Power::One => Ext {
-            c0: q,
-            c1: zero,
-            c2: zero,
-        },
-        Power::T => Ext {
-            c0: zero,
-            c1: q,
-            c2: zero,
-        },
-        Power::Square => Ext {
-            c0: zero,
-            c1: zero,
-            c2: q,
-        },
+    match only_component(e) {
+        None => false,
+        Some((q, letters)) => {
+            if letters.is_empty() {
+                !is_unit(q)
+            } else {
+                true
+            }
+        }
     }
 }
 
-// The coefficient before these letters, which stand before others.
-fn read_behind(sign: u8, front: &[u8], letters: &[u8]) -> Option<Frac>
-    requires { IsLetters letters.now }
-    ensures some { IfSome result (λ q. IsCoefficient q × ((more : List ℕ) → signed_text (product_text q (42 ∷ (letters.now ++ more))) ≡ sign ∷ (front.now ++ more))) }
-    ensures none { result ≡ None → (q : Frac) (more : List ℕ) → IsCoefficient q → signed_text (product_text q (42 ∷ (letters.now ++ more))) ≡ sign ∷ (front.now ++ more) → ⊥ }
+// A coefficient of one component that is written before a star.
+fn read_written(sign: u8, magnitude: &[u8]) -> Option<Ext<Frac>>
+    ensures some { IfSome result (λ e. AreFractions e × IsWritten e × (components_text e ≡ sign ∷ magnitude.now)) }
+    ensures none { result ≡ None → (e : Ext Frac) → AreFractions e → IsWritten e → components_text e ≡ sign ∷ magnitude.now → ⊥ }
 {
-    match strip_end(front, letters) {
+    let (e, rest) = take_element(Some((sign, magnitude)));
+    if rest.is_some() {
+        return None;
+    }
+    if is_written(e) { Some(e) } else { None }
+}
+
+// The coefficient of one component, from its sign and what stands between it and the factors.
+fn read_single(sign: u8, front: &[u8]) -> Option<Ext<Frac>>
+    ensures some { IfSome result (λ e. AreFractions e × IsSingle e × ((factors : List ℕ) → IsLetters factors → before_factors e factors ≡ sign ∷ (front.now ++ factors))) }
+    ensures none { result ≡ None → (e : Ext Frac) (factors : List ℕ) → AreFractions e → IsSingle e → IsLetters factors → before_factors e factors ≡ sign ∷ (front.now ++ factors) → ⊥ }
+{
+    if front.is_empty() {
+        return match unit_of(sign) {
+            None => None,
+            Some(q) => Some(rational(q)),
+        };
+    }
+    match strip_end(front, b"*") {
         None => None,
-        Some(before) => read_coefficient(sign, before),
-    }
-}
-
-// The coefficient before this power of t, which stands before letters.
-fn read_scaled(sign: u8, front: &[u8], power: Power) -> Option<Frac>
-    ensures some { IfSome result (λ q. IsCoefficient q × ((letters : List ℕ) → IsLetters letters → simple_text power q letters ≡ sign ∷ (front.now ++ letters))) }
-    ensures none { result ≡ None → (q : Frac) (letters : List ℕ) → IsCoefficient q → IsLetters letters → simple_text power q letters ≡ sign ∷ (front.now ++ letters) → ⊥ }
-{
-    match power {
-        Power::One => read_coefficient(sign, front),
-        Power::T => read_behind(sign, front, b"t*"),
-        Power::Square => read_behind(sign, front, b"t^2*"),
-    }
-}
-
-// The coefficient of one component before letters.
-fn read_single(sign: u8, front: &[u8]) -> Option<(Power, Frac)>
-    ensures some { IfSome result (λ p. IsCoefficient p.1 × ((letters : List ℕ) → IsLetters letters → simple_text p.0 p.1 letters ≡ sign ∷ (front.now ++ letters))) }
-    ensures none { result ≡ None → (power : Power) (q : Frac) (letters : List ℕ) → IsCoefficient q → IsLetters letters → simple_text power q letters ≡ sign ∷ (front.now ++ letters) → ⊥ }
-{
-    if let Some(q) = read_scaled(sign, front, Power::One) {
-        return Some((Power::One, q));
-    }
-    if let Some(q) = read_scaled(sign, front, Power::T) {
-        return Some((Power::T, q));
-    }
-    match read_scaled(sign, front, Power::Square) {
-        None => None,
-        Some(q) => Some((Power::Square, q)),
+        Some(magnitude) => read_written(sign, magnitude),
     }
 }
 
@@ -107,9 +87,9 @@ fn read_simple(sign: u8, magnitude: &[u8]) -> Option<(Exp, Ext<Frac>)>
         None => None,
         Some((front, factors)) => match read_single(sign, front) {
             None => None,
-            Some((power, q)) => match read_factors(factors) {
+            Some(e) => match read_factors(factors) {
                 None => None,
-                Some(m) => Some((m, multiple_of(power, q))),
+                Some(m) => Some((m, e)),
             },
         },
     }
@@ -142,8 +122,11 @@ fn read_starred(bytes: &[u8]) -> Option<Exp>
 fn is_long(e: Ext<Frac>) -> bool
     ensures { IsTrue result ↔ IsLong e }
 {
-    let (z0, z1, z2) = (e.c0.num == 0, e.c1.num == 0, e.c2.num == 0);
-    !((z0 && z1) || (z0 && z2) || (z1 && z2))
+    if is_zero(e) {
+        false
+    } else {
+        only_component(e).is_none()
+    }
 }
 
 // A coefficient of more than one component, whose parenthesis was opened, and what stands behind the one that closes it.

@@ -11,7 +11,7 @@ use Rattle.jacobian_row.specs.Rows.{AreRowsOf, AreMonomialRows, ArePartials}
 use Rattle.jacobian_row.proofs.RowFacts
 use Rattle.jet_law.specs.Terms.{poly_of}
 use Rattle.jet_quotient.specs.Answers.{begins_at, number_of, free_of, AreRowsBy}
-use Rattle.jet_quotient.proofs.ListFacts.{kept_all}
+use Rattle.jacobian_row.proofs.MonomialLists.{kept_all}
 use Rattle.jet_quotient.proofs.AnswerFacts.{answer_from, degrees_low}
 use Rattle.jet_quotient.proofs.CallFacts.{rows-count, remainders_length, remainders_readable, quotient_high}
 use Rattle.jet_quotient.proofs.algebra.quotient.Goals as goal

@@ -18,3 +18,6 @@ returns-clause-line g c =
 pub returns-clause-below : goal.returns-clause-below
 returns-clause-below g c =
     rw c.in_ok-push.ensures.ok (BuildLaws.below_push c.args.entries.now (c.args.column + 1) (c.args.column, c.args.x) (SystemLaws.below_bigger c.args.entries.now c.args.column (c.args.column + 1) (omega arith) c.requires.below) (omega arith))
+
+pub returns-then-eq-clause-below : goal.returns-then-eq-clause-below
+returns-then-eq-clause-below g c = SystemLaws.below_bigger c.args.entries.now c.args.column (c.args.column + 1) (omega arith) c.requires.below

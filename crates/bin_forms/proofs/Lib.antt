@@ -1,0 +1,10 @@
+mod FieldFacts
+mod Zeros
+mod ZeroSteps
+mod LargerRings
+mod CubicForms
+mod CubicShapes
+mod CubicSteps
+mod QuarticForms
+mod QuarticShapes
+mod PairSteps

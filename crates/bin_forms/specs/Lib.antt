@@ -1,0 +1,6 @@
+pub mod Forms
+pub mod Lines
+pub mod Shapes
+pub mod Quartics
+pub mod Pairs
+pub mod Laws

@@ -1,0 +1,2 @@
+pub mod MultipliedHeights
+pub mod FirstLeads

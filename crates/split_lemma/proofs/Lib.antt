@@ -1,0 +1,4 @@
+pub mod Halves
+pub mod Belonging
+pub mod CompletedTerms
+pub mod SplitParts

@@ -1,0 +1,14 @@
+pub mod Linear
+pub mod Matrices
+pub mod Hessian
+pub mod Cubics
+pub mod Pairs
+pub mod Steps
+pub mod Routes
+pub mod Rules
+pub mod Triangle
+pub mod TriangleWork
+pub mod Shapes
+pub mod Heights
+pub mod Begin
+pub mod Laws
