@@ -177,6 +177,7 @@ unfolding is_element one_element gcd
 one_valid algebras.Rational = refl
 one_valid (algebras.Quadratic m1 m0) = refl
 one_valid (algebras.Cubic m2 m1 m0) = refl
+one_valid (algebras.Tower m2 m1 m0 d) = refl
 
 one_value : (a : Algebra) (n : ℕ) (m : Exp) → IsResidual n m → IsFunctionalValue a n (m, one_element)
 one_value a n m h = both_true h (one_valid a)

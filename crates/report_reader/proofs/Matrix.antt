@@ -8,7 +8,7 @@ use Rattle.std.proofs.Math.Seq.{take-append_seam, drop-append_seam}
 use Rattle.std.specs.Prelude.{IsTrue}
 use Rattle.ring_theory.specs.Gcd as gcds
 use Rattle.ext_algebra.specs.declared.algebra.Algebra.{Algebra}
-use Rattle.ext_algebra.specs.declared.algebra.Algebra.TheVariants.{Rational, Quadratic, Cubic}
+use Rattle.ext_algebra.specs.declared.algebra.Algebra.TheVariants.{Rational, Quadratic, Cubic, Tower}
 use Rattle.ext_algebra.specs.Algebra.{is_element}
 use Rattle.poly_text.specs.Numbers.{element_text}
 use Rattle.cert_text.specs.Text.{line, spaced, rows_text, values_text}
@@ -107,6 +107,7 @@ unfolding is_element gcds.gcd
 zero_valid Rational = refl
 zero_valid (Quadratic m1 m0) = refl
 zero_valid (Cubic m2 m1 m0) = refl
+zero_valid (Tower m2 m1 m0 d) = refl
 
 -- so many zeros
 pub some_elements : (a : Algebra) (k : ℕ) → (es : List Element) × AreElements a k es
