@@ -1,7 +1,6 @@
 //! Elements of an algebra, and jets over it, from the words of a line.
 
-ghost use Rattle.std.specs.Prelude.{◌≡◌, ◌≤◌, All, IfOk, IfSome, length};
-ghost use Rattle.ext_algebra.specs.ExtRing.{AllValid};
+ghost use Rattle.std.specs.Prelude.{◌≡◌, ◌≤◌, ◌×◌, All, IfOk, IfSome, length};
 ghost use Rattle.ext_algebra.specs.Algebra.{IsAlgebra, IsElement};
 ghost use Rattle.ext_algebra.specs.declared.algebra.Ext.{Ext as ExtOf};
 ghost use Rattle.ring_law.specs.declared.fraction.Frac.{Frac as FracOf};
@@ -22,7 +21,7 @@ use poly_text::put_element;
 use ring_law::{Field, Frac, Ring};
 use small_frac::Rationals;
 use std::alloc::Global;
-use text_reader::{read_algebra, read_element, read_polynomial};
+use text_reader::{read_element, read_polynomial};
 
 // The element of an algebra that the next word spells.
 fn element_of(algebra: Algebra, words: &mut Words) -> Result<Ext<Frac>, Stop>
@@ -303,7 +302,7 @@ pub(crate) fn calculate(
     words: &mut Words,
     out: &mut Vec<u8>,
 ) -> Result<(), Stop> {
-    let algebra = read_algebra(words.next()).ok_or(Stop::Words)?;
+    let algebra = words.algebra(alloc)?;
     match (group, command) {
         (b"text", _) => return texts::calculate(alloc, command, algebra, words, out),
         (_, b"product") => return put_product(alloc, algebra, words, out),

@@ -2,13 +2,15 @@
 
 ghost use Rattle.std.specs.Prelude.{IfOk};
 ghost use Rattle.ring_law.specs.Fraction.{IsFrac};
+ghost use Rattle.ext_algebra.specs.Algebra.{IsAlgebra};
 
 use coord_change::ChangeError;
+use ext_algebra::Algebra;
 use poly_text::put_fraction;
 use ring_law::{Fault, Frac, NoMemory, Range};
 use std::alloc::{AllocError, AllocFailed, Global};
 use std::str::FromStr;
-use text_reader::{read_fraction, read_u8, split_at_byte};
+use text_reader::{read_algebra, read_fraction, read_u8, split_at_byte};
 
 /// Why a line has no answer: its words ask for nothing that there is, nothing is what is asked for, a number is out of range, or memory ran out.
 #[derive(Clone, Copy)]
@@ -120,6 +122,20 @@ impl<'a> Words<'a> {
     {
         let word = String::from_utf8_lossy(alloc, self.next())?;
         word.as_str().parse::<N>().ok().ok_or(Stop::Words)
+    }
+
+    /// The algebra that the next word spells, or the next three where the second is a semicolon.
+    pub(crate) fn algebra(&mut self, alloc: Global) -> Result<Algebra, Stop>
+        ensures { IfOk result IsAlgebra }
+    {
+        let mut text = Vec::new(alloc);
+        text.extend_from_slice(self.next())?;
+        if self.rest.starts_with(b"; ") {
+            let _ = self.next();
+            text.extend_from_slice(b" ; ")?;
+            text.extend_from_slice(self.next())?;
+        }
+        read_algebra(&text).ok_or(Stop::Words)
     }
 
     /// The fraction that the next word spells in lowest terms.
