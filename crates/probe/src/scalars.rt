@@ -1,6 +1,6 @@
 //! Elements of an algebra, and jets over it, from the words of a line.
 
-ghost use Rattle.std.specs.Prelude.{◌≡◌, ◌≤◌, ◌×◌, All, IfOk, IfSome, length};
+ghost use Rattle.std.specs.Prelude.{◌≡◌, ◌≤◌, All, IfOk, IfSome, length};
 ghost use Rattle.ext_algebra.specs.Algebra.{IsAlgebra, IsElement};
 ghost use Rattle.ext_algebra.specs.declared.algebra.Ext.{Ext as ExtOf};
 ghost use Rattle.ring_law.specs.declared.fraction.Frac.{Frac as FracOf};
