@@ -29,6 +29,7 @@ abbrev pub IsPairAlgebra : List Rational → Algebra → Type 0
 IsPairAlgebra q (algebras.Quadratic m1 m0) = IsFrac m1 × IsFrac m0 × (quadratic_modulus m1 m0 ≡ monic_quadratic 2 (coefficient q 0) (coefficient q 1) (coefficient q 2))
 IsPairAlgebra q algebras.Rational = ⊥
 IsPairAlgebra q (algebras.Cubic m2 m1 m0) = ⊥
+IsPairAlgebra q (algebras.Tower m2 m1 m0 d) = ⊥
 
 -- q0 is 0, where y is a line; it is not, and the roots are valid fractions; it is not, and the algebra is that of q
 abbrev pub IsOfKind : List Rational → Pair → Type 0
