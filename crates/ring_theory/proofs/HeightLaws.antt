@@ -1,13 +1,14 @@
 -- Sums of lists of rational numbers over a common denominator, and the greatest of a list of heights.
-use Rattle.std.proofs.Common.{◌≡◌, ℕ, zero, suc, ◌+◌, ◌*◌, ◌/◌, ◌≤◌, ◌<◌, List, [], ◌∷◌, get_or, ℤ, pos, ◌+ℤ◌, ◌*ℤ◌, unsigned_abs, sym, ◌∙◌, ap, subst, arith, mul-pos, zero-lt-suc, le-mul_of_pos_right}
-use Rattle.std.proofs.Math.Nat.{div-mul_cancel, dvd-mul_left, dvd-mul_right, dvd_trans, dvd_of_mul-dvd-mul_right, mul-dvd-mul_right, mul-div_cancel}
+use Rattle.std.proofs.Common.{◌≡◌, ℕ, zero, suc, ◌+◌, ◌*◌, ◌/◌, ◌≤◌, ◌<◌, List, [], ◌∷◌, get_or, max, ℤ, pos, ◌+ℤ◌, ◌*ℤ◌, unsigned_abs, refl, sym, ◌∙◌, ap, subst, arith, mul-pos, zero-lt-suc, le-mul_of_pos_right}
+use Rattle.std.proofs.Math.Nat.{div-mul_cancel, dvd-mul_left, dvd-mul_right, dvd_trans, dvd_of_mul-dvd-mul_right, le-max_right, le_of_dvd, mul-dvd-mul_right, mul-div_cancel}
 use Rattle.std.proofs.lemmas.Int.{ints, unsigned_abs-mul}
+use Rattle.std.proofs.lemmas.Nat.{le-div}
 use Rattle.std.specs.Int.{◌∣◌}
 use Rattle.ring_theory.specs.Gcd.{gcd}
-use Rattle.ring_theory.specs.Height.{most, lcm, common_den, scaled_abs, sum_abs}
+use Rattle.ring_theory.specs.Height.{most, height, lcm, common_den, scaled_abs, sum_abs, sum_height, product_height, inverse_height, rational_scalars}
 use Rattle.ring_theory.specs.Integers.{int_ops}
-use Rattle.ring_theory.specs.Rational.{Rational, rational, rational_add, rational_ops}
-use Rattle.ring_theory.specs.Scalars.{TwoParts, none, first, second, neither, sum_of}
+use Rattle.ring_theory.specs.Rational.{Rational, rational, rational_add, rational_mul, rational_inv, rational_ops}
+use Rattle.ring_theory.specs.Scalars.{TwoParts, none, first, second, neither, sum_of, HeightLaws, InverseHeightLaws}
 use Rattle.ring_theory.proofs.GcdLaws.{gcd_is, gcd_pos, gcd_comm, coprime_dvd}
 use Rattle.ring_theory.proofs.Lowest.{coprime_quotients, zero_lowest, quotient_pos_first}
 use Rattle.ring_theory.proofs.IntegerLaws.{int_laws}
@@ -159,3 +160,29 @@ div_second b c k h = ap (λ x. x / c) (swap (b / gcd b c) c k) ∙ mul-div_cance
 
 pub scaled_le : (x y : ℤ) (k : ℕ) → 0 < k → x ≡ y *ℤ pos k → unsigned_abs y ≤ unsigned_abs x
 scaled_le x y k h e = subst (λ n. unsigned_abs y ≤ n) (sym (unsigned_abs-mul y (pos k)) ∙ ap unsigned_abs (sym e)) (le-mul_of_pos_right (unsigned_abs y) h)
+
+-- ---- the height of what comes out
+
+-- a sum is at most as high as its least common denominator and the absolute values over it
+sum-height : (qs : List Rational) → height (sum_of rational_ops qs) ≤ sum_height qs
+sum-height qs =
+    let d = common_den qs in
+    let q = sum_of rational_ops qs in
+    let h = common_den-pos qs in
+    let k = sum_fraction d qs h (common_den-divides qs) in
+    let den : q.den ≤ d = le_of_dvd h k.0 in
+    let num : unsigned_abs q.num ≤ unsigned_abs (over d q) = scaled_le (over d q) q.num (d / q.den) (let one : 1 ≤ d / q.den = le-div 1 d q.den (den_pos q) (omega (arith, den)) in omega arith) refl in
+    omega (arith, k.1)
+
+-- the heights of products and sums of rational numbers
+pub rational_heights : HeightLaws rational_scalars
+unfolding product_height
+rational_heights = record {
+  product = λ x y. let h : height (rational_mul x y) ≤ max (height x) (max (height y) (height (rational_mul x y))) = omega arith in h;
+  sum = sum-height;
+}
+
+-- and of inverses
+pub rational_inverse_heights : InverseHeightLaws rational_scalars
+unfolding inverse_height
+rational_inverse_heights = record { inverse = λ v n. le-max_right (height v) (height (rational_inv v)) }

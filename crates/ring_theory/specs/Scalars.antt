@@ -32,6 +32,11 @@ abbrev pub sum_of : {V : Type 0} → RingOps V → List V → V
 sum_of r [] = r.zero
 sum_of r (x ∷ xs) = r.add x (sum_of r xs)
 
+-- a number that is a product or a sum is at most as high as the product or the sum
+pub record HeightLaws {V : Type 0} (s : Scalars V) : Type 0 where
+  pub product : (x y : V) → s.height (s.ops.mul x y) ≤ s.product_height x y
+  pub sum : (xs : List V) → s.height (sum_of s.ops xs) ≤ s.sum_height xs
+
 -- ys and zs are parts of xs that have no place in common
 pub data TwoParts {V : Type 0} : List V → List V → List V → Type 0 where
   none : TwoParts [] [] []
@@ -57,3 +62,7 @@ pub record MeaningLaws {E V : Type 0} (m : Meaning E V) : Type 0 where
 -- every number but zero has its inverse
 pub record HasInverses {V : Type 0} (s : Scalars V) : Type 0 where
   pub mul_inverse : (v : V) → v ≢ s.ops.zero → s.ops.mul v (s.inverse v) ≡ s.ops.one
+
+-- the inverse of a number other than zero is at most as high as the inverting
+pub record InverseHeightLaws {V : Type 0} (s : Scalars V) : Type 0 where
+  pub inverse : (v : V) → v ≢ s.ops.zero → s.height (s.inverse v) ≤ s.inverse_height v
