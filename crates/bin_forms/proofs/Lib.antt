@@ -8,3 +8,4 @@ mod CubicSteps
 mod QuarticForms
 mod QuarticShapes
 mod PairSteps
+mod QuarticSteps

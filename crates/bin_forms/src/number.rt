@@ -1,12 +1,14 @@
 //! Tests for zero, and quotients of elements of a field.
 
-ghost use Rattle.std.specs.Prelude.{◌≡◌, ◌≢◌, ◌<◌, IfOk, All, map};
+ghost use Rattle.std.specs.Prelude.{◌≡◌, ◌≢◌, ◌<◌, ◌≤◌, ◌^◌, IfOk, All, map};
 ghost use Rattle.lin_row.specs.Plain.{Among};
 ghost use Rattle.ring_law.specs.Refusals.{OnRange};
 ghost use Rattle.jet_poly.specs.Jets.{whole as whole_value};
-ghost use Rattle.move_law.specs.Moves.{over};
+ghost use Rattle.normal_forms.specs.Units.{over_number, over_height};
+ghost use Rattle.move_law.specs.Moves.{over, minus};
 ghost use Rattle.move_law.specs.Shapes.{are_zero as are_zero_values, over_work, over_multiple_work};
 ghost use Rattle.move_law.specs.Work.{IsWorkHigh};
+ghost use Rattle.bin_forms.specs.Lines.{less_work};
 
 use ring_law::{Field, Frac, Range, Ring};
 
@@ -77,4 +79,39 @@ pub(crate) fn over_multiple<F: Field>(
 {
     let multiple = field.mul(whole(field, k), b)?;
     quotient(field, a, multiple)
+}
+
+// v / n.
+pub(crate) fn part_of<R: Ring>(ring: &R, n: u8, v: R::Elem) -> Result<R::Elem, Range>
+    requires ring { R.is_ring ring.now }
+    requires elem { (R.meaning ring.now).is_elem v }
+    requires divisor { 0 < n }
+    ensures elem { IfOk result (R.meaning ring.now).is_elem }
+    ensures value { IfOk result (λ y. let m = R.meaning ring.now in m.value y ≡ over_number m.scalars n (m.value v)) }
+    ensures range { OnRange result (let m = R.meaning ring.now in 2 ^ 120 ≤ over_height m.scalars n (m.value v)) }
+{
+    let inverse = ring.inject(Frac {
+        num: 1,
+        den: i128::from(n),
+    });
+    ring.mul(inverse, v)
+}
+
+// x - w*y.
+pub(crate) fn less_multiple<R: Ring>(
+    ring: &R,
+    x: R::Elem,
+    w: R::Elem,
+    y: R::Elem,
+) -> Result<R::Elem, Range>
+    requires ring { R.is_ring ring.now }
+    requires first { (R.meaning ring.now).is_elem x }
+    requires factor { (R.meaning ring.now).is_elem w }
+    requires second { (R.meaning ring.now).is_elem y }
+    ensures elem { IfOk result (R.meaning ring.now).is_elem }
+    ensures value { IfOk result (λ z. let m = R.meaning ring.now in m.value z ≡ minus m.scalars (m.value x) (m.scalars.ops.mul (m.value w) (m.value y))) }
+    ensures range { OnRange result (let m = R.meaning ring.now in Among (IsWorkHigh 2 m.scalars) (less_work m.scalars (m.value w) (m.value x) (m.value y))) }
+{
+    let multiple = ring.mul(w, y)?;
+    ring.add(x, ring.neg(multiple))
 }
