@@ -18,12 +18,12 @@ use Rattle.poly_text.specs.Polynomials.{name_text}
 use Rattle.line_germ.specs.Answers.{what_at}
 use Rattle.cert_text.specs.declared.report.Carried.{Carried}
 use Rattle.cert_text.specs.WellFormed.{is_valid_name, IsWellFormedCarried}
-use Rattle.report_law.specs.Items.{IsSyntaxRefusal, IsLiteralRefusal, IsNotCritical, IsShape}
+use Rattle.report_law.specs.Items.{IsShape}
 use Rattle.report_law.specs.Right.{IsRead, IsHighLine}
 use Rattle.line_jet_law.specs.LineJets.{order_limit}
 use Rattle.report_law.proofs.Splitting.{and_both}
 use Rattle.report_law.proofs.Exclusions.{large_line, large_spelled, small_excludes, grammar_excludes, critical_excludes, one_front, one_literal, one_variable_name}
-use Rattle.report_law.proofs.Names.{line_names, linear_is, names_of_words, words_of_names, one_name, one_list_of_names}
+use Rattle.report_law.proofs.Names.{line_names, names_of_words, words_of_names, one_list_of_names}
 use Rattle.check_line.specs.declared.tested.Tested.{Tested}
 use Rattle.check_line.specs.declared.tested.Tested.TheVariants as tested
 use Rattle.check_line.specs.Tests.{IsTested}
@@ -56,56 +56,53 @@ high_line bytes limit h = record { read = high_read bytes limit h; is_high = h.i
 
 -- ---- syntax
 
-pub read_no_syntax : (bytes : List ℕ) (column : ℕ) (what : What) → IsRead bytes → IsSyntaxRefusal bytes column what → ⊥
+pub read_no_syntax : (bytes : List ℕ) (column : ℕ) (what : What) → IsRead bytes → IsSyntaxAt bytes column what → ⊥
 read_no_syntax bytes column what r h = grammar_excludes bytes column what r.line r.spells h
 
-pub literal_no_syntax : (bytes : List ℕ) (found column : ℕ) (what : What) → IsLiteralAt bytes found → IsSyntaxRefusal bytes column what → ⊥
+pub literal_no_syntax : (bytes : List ℕ) (found column : ℕ) (what : What) → IsLiteralAt bytes found → IsSyntaxAt bytes column what → ⊥
 literal_no_syntax bytes found column what r h =
     let s = large_line bytes r.before r.error in grammar_excludes bytes column what s.line_is s.spells h
 
 -- a line is refused at one column, with one kind
-pub one_syntax : (bytes : List ℕ) (found column : ℕ) (kind what : What) → IsSyntaxAt bytes found kind → ((found ≡ column) × (kind ≡ what)) ↔ IsSyntaxRefusal bytes column what
+pub one_syntax : (bytes : List ℕ) (found column : ℕ) (kind what : What) → IsSyntaxAt bytes found kind → ((found ≡ column) × (kind ≡ what)) ↔ IsSyntaxAt bytes column what
 one_syntax bytes found column kind what r = (
-  λ e. record { front_length = r.before; error = r.error; column_is = sym e.0 ∙ r.column_is; what_is = sym e.1 ∙ r.what_is },
+  λ e. record { before = r.before; error = r.error; column_is = sym e.0 ∙ r.column_is; what_is = sym e.1 ∙ r.what_is },
   λ h.
-      let front = one_front bytes r.before h.front_length r.error h.error in
+      let front = one_front bytes r.before h.before r.error h.error in
       (r.column_is ∙ ap (λ n. n + 1) front ∙ sym h.column_is, r.what_is ∙ ap (what_at bytes) front ∙ sym h.what_is),
 )
 
 -- ---- numbers that are too large
 
-pub read_no_literal : (bytes : List ℕ) (column : ℕ) → IsRead bytes → IsLiteralRefusal bytes column → ⊥
+pub read_no_literal : (bytes : List ℕ) (column : ℕ) → IsRead bytes → IsLiteralAt bytes column → ⊥
 read_no_literal bytes column r h = small_excludes bytes column r.line r.spells r.small h
 
-pub syntax_no_literal : (bytes : List ℕ) (found column : ℕ) (kind : What) → IsSyntaxAt bytes found kind → IsLiteralRefusal bytes column → ⊥
+pub syntax_no_literal : (bytes : List ℕ) (found column : ℕ) (kind : What) → IsSyntaxAt bytes found kind → IsLiteralAt bytes column → ⊥
 syntax_no_literal bytes found column kind r h =
     let s = large_spelled bytes column h in r.error.outside (s.line_is, s.spells)
 
-pub one_literal_column : (bytes : List ℕ) (found column : ℕ) → IsLiteralAt bytes found → IsTrue (found == column) ↔ IsLiteralRefusal bytes column
+pub one_literal_column : (bytes : List ℕ) (found column : ℕ) → IsLiteralAt bytes found → IsTrue (found == column) ↔ IsLiteralAt bytes column
 one_literal_column bytes found column r = (
-  λ e. record { place = r.before; error = r.error; column_is = sym (eqb-true found column e) ∙ r.column_is },
-  λ h. eq-eqb found column (r.column_is ∙ ap (λ n. n + 1) (one_literal bytes r.before h.place r.error h.error) ∙ sym h.column_is),
+  λ e. record { before = r.before; error = r.error; column_is = sym (eqb-true found column e) ∙ r.column_is },
+  λ h. eq-eqb found column (r.column_is ∙ ap (λ n. n + 1) (one_literal bytes r.before h.before r.error h.error) ∙ sym h.column_is),
 )
 
 -- ---- linear terms
 
-pub germ_no_linear : (bytes : List ℕ) (limit : ℕ) (g : Germ) (w : Word) → IsLineGerm bytes limit g → IsNotCritical bytes w → ⊥
+pub germ_no_linear : (bytes : List ℕ) (limit : ℕ) (g : Germ) (w : Name) → IsLineGerm bytes limit g → IsLinearIn bytes w → ⊥
 germ_no_linear bytes limit g w r h = critical_excludes bytes r.is_germ.line w r.is_germ.critical h
 
-pub syntax_no_linear : (bytes : List ℕ) (found : ℕ) (kind : What) (w : Word) → IsSyntaxAt bytes found kind → IsNotCritical bytes w → ⊥
-syntax_no_linear bytes found kind w r h = r.error.outside (h.line, h.spells)
+pub syntax_no_linear : (bytes : List ℕ) (found : ℕ) (kind : What) (w : Name) → IsSyntaxAt bytes found kind → IsLinearIn bytes w → ⊥
+syntax_no_linear bytes found kind w r h = r.error.outside (h.linear.line, h.linear.spells)
 
-pub literal_no_linear : (bytes : List ℕ) (found : ℕ) (w : Word) → IsLiteralAt bytes found → IsNotCritical bytes w → ⊥
+pub literal_no_linear : (bytes : List ℕ) (found : ℕ) (w : Name) → IsLiteralAt bytes found → IsLinearIn bytes w → ⊥
 literal_no_linear bytes found w r h =
     let s = large_line bytes r.before r.error in
-    s.not_small (subst (λ l. IsTrue (has_small_literals l)) (one_line bytes h.line s.line_is h.spells s.spells) h.small)
+    s.not_small (subst (λ l. IsTrue (has_small_literals l)) (one_line bytes h.linear.line s.line_is h.linear.spells s.spells) h.linear.small)
 
--- the first variable with a linear coefficient has one name
-pub one_linear : (bytes : List ℕ) (v w : Name) → IsTrue (is_valid_name w) → IsLinearIn bytes v → (v ≡ w) ↔ IsNotCritical bytes (name_text w)
-one_linear bytes v w valid h = (
-  λ e. subst (λ z. IsNotCritical bytes (name_text z)) e (linear_is bytes v h).0,
-  λ k. one_name v w (linear_is bytes v h).1 valid (one_variable_name bytes (name_text v) (name_text w) (linear_is bytes v h).0 k),
-)
+-- the first variable with a linear coefficient is one
+pub one_linear : (bytes : List ℕ) (v w : Name) → IsLinearIn bytes v → (v ≡ w) ↔ IsLinearIn bytes w
+one_linear bytes v w h = (λ e. subst (IsLinearIn bytes) e h, one_variable_name bytes v w h)
 
 -- ---- critical lines
 
@@ -118,7 +115,7 @@ literal_no_germ bytes found r l h =
     s.not_small (subst (λ z. IsTrue (has_small_literals z)) (one_line bytes l s.line_is h.spells s.spells) h.small)
 
 pub linear_no_germ : (bytes : List ℕ) (v : Name) → IsLinearIn bytes v → (l : Line) → IsCritical bytes l → ⊥
-linear_no_germ bytes v r l h = critical_excludes bytes l (name_text v) h (linear_is bytes v r).0
+linear_no_germ bytes v r l h = critical_excludes bytes l v h r
 
 -- the answer of the reader is the germ of the one line that the bytes spell
 pub germ_of_line : (bytes : List ℕ) (limit : ℕ) (g : Germ) → IsLineGerm bytes limit g → IsGermOfLine bytes limit g

@@ -3,9 +3,7 @@
 
 ghost use Rattle.std.specs.Prelude.{◌≡◌, ◌<◌, ◌≤◌, ◌↔◌, ◌&&◌, ◌==◌, length, IfOk, IsTrue};
 ghost use Rattle.germ_law.specs.Germ.{line_limit};
-ghost use Rattle.poly_text.specs.Polynomials.{name_text};
-ghost use Rattle.cert_text.specs.WellFormed.{is_valid_name};
-ghost use Rattle.report_law.specs.Items.{IsSyntaxRefusal, IsLiteralRefusal, IsNotCritical};
+ghost use Rattle.line_germ.specs.Reads.{IsSyntaxAt, IsLiteralAt, IsLinearIn};
 ghost use Rattle.report_law.specs.Right.{IsHighLine};
 ghost use Rattle.check_line.specs.Lines.{refusal_limit};
 ghost use Rattle.check_line.specs.Tests.{IsTested};
@@ -52,7 +50,7 @@ pub fn is_syntax_refusal(
     what: What,
 ) -> Result<bool, NoMemory>
     requires { length line.now ≤ 65536 }
-    ensures { IfOk result (λ b. IsTrue b ↔ IsSyntaxRefusal line.now column what) }
+    ensures { IfOk result (λ b. IsTrue b ↔ IsSyntaxAt line.now column what) }
 {
     match read_line(alloc, line, LIMIT) {
         Err(NoMemory) => Err(NoMemory),
@@ -72,7 +70,7 @@ pub fn is_syntax_refusal(
 /// True where the first number of the line that is too large begins at this column.
 pub fn is_literal_refusal(alloc: Global, line: &[u8], column: u32) -> Result<bool, NoMemory>
     requires { length line.now ≤ 65536 }
-    ensures { IfOk result (λ b. IsTrue b ↔ IsLiteralRefusal line.now column) }
+    ensures { IfOk result (λ b. IsTrue b ↔ IsLiteralAt line.now column) }
 {
     match read_line(alloc, line, LIMIT) {
         Err(NoMemory) => Err(NoMemory),
@@ -105,9 +103,8 @@ fn test_name(a: Name, b: Name) -> Tested
 /// Whether this is the first variable of the line with a linear coefficient that is not 0: `High` only
 /// where reading the line up to order 3 forms a number of height at least 2^120.
 pub fn test_not_critical(alloc: Global, line: &[u8], variable: Name) -> Result<Tested, NoMemory>
-    requires short { length line.now ≤ 65536 }
-    requires name { IsTrue (is_valid_name variable) }
-    ensures { IfOk result (IsTested (IsNotCritical line.now (name_text variable)) (IsHighLine line.now refusal_limit)) }
+    requires { length line.now ≤ 65536 }
+    ensures { IfOk result (IsTested (IsLinearIn line.now variable) (IsHighLine line.now refusal_limit)) }
 {
     match read_line(alloc, line, LIMIT) {
         Err(NoMemory) => Err(NoMemory),

@@ -1,9 +1,8 @@
 -- Which lines get which answer: two kinds of answers exclude each other, since bytes spell one line.
 use Rattle.std.proofs.Common.{◌≡◌, ℕ, ◌+◌, ◌<◌, ◌≤◌, ◌⊎◌, inl, inr, List, length, refl, sym, ap, ap₂, subst, ◌∙◌, arith}
-use Rattle.line_syntax.specs.Syntax.{Word, Line}
+use Rattle.line_syntax.specs.Syntax.{Line}
 use Rattle.poly_text.specs.declared.name.Name.{Name}
 use Rattle.poly_text.specs.declared.what.What.{What}
-use Rattle.poly_text.specs.Polynomials.{name_text}
 use Rattle.cert_text.specs.declared.report.Answer.{Answer}
 use Rattle.cert_text.specs.declared.report.Answer.TheVariants as answers
 use Rattle.cert_text.specs.declared.report.Limit as limit_type
@@ -13,12 +12,12 @@ use Rattle.cert_text.specs.declared.report.Phase.{Phase}
 use Rattle.cert_text.specs.declared.report.Report.{Report}
 use Rattle.cert_text.specs.declared.report.Report.TheVariants as reports
 use Rattle.report_law.proofs.Exclusions.{large_spelled, small_excludes, grammar_excludes, critical_excludes, one_front, one_variable_name}
-use Rattle.report_law.specs.Items.{IsSyntaxRefusal, IsLiteralRefusal, IsNotCritical}
 use Rattle.report_law.specs.Right.{IsManyVariables, IsRead, IsRightAnswer}
 use Rattle.line_germ.specs.Answers.{what_at}
+use Rattle.line_germ.specs.Reads.{IsSyntaxAt, IsLiteralAt, IsLinearIn}
 use Rattle.one_variable_law.proofs.Right.{not_many}
 use Rattle.one_variable_law.specs.Plan.{IsAnswer, IsOneVariable, IsPlannedAnswer}
-use Rattle.one_variable.specs.Laws.{IsTooLongExactly, IsSyntaxExactly, IsLiteralAnswer, IsLiteralExactly, IsNotCriticalAnswer, IsNotCriticalExactly, IsUnbuiltExactly, IsDecided, IsDecidedInOneVariable, IsExact, named, undecided, high}
+use Rattle.one_variable.specs.Laws.{IsTooLongExactly, IsSyntaxExactly, IsLiteralAnswer, IsLiteralExactly, IsNotCriticalExactly, IsUnbuiltExactly, IsDecided, IsDecidedInOneVariable, IsExact, named, undecided, high}
 
 -- ---- the report of a line
 
@@ -52,9 +51,9 @@ data Decided (a : Answer) : Type 0 where
 
 -- an answer, and what is true of the line where it is right
 data Kind (line : List ℕ) (a : Answer) : Type 0 where
-  no_line : (column : ℕ) (what : What) → a ≡ answers.Syntax column what → IsSyntaxRefusal line column what → Kind line a
-  large : (column : ℕ) → a ≡ answers.Literal column → IsLiteralRefusal line column → Kind line a
-  linear : (name : Name) → a ≡ answers.NotCritical name → IsNotCritical line (name_text name) → Kind line a
+  no_line : (column : ℕ) (what : What) → a ≡ answers.Syntax column what → IsSyntaxAt line column what → Kind line a
+  large : (column : ℕ) → a ≡ answers.Literal column → IsLiteralAt line column → Kind line a
+  linear : (name : Name) → a ≡ answers.NotCritical name → IsLinearIn line name → Kind line a
   not_read : a ≡ answers.Range phases.Line → IsRead line → Kind line a
   many : a ≡ answers.Unbuilt → IsManyVariables line → Kind line a
   one : (l : Line) → IsOneVariable line l → Decided a → Kind line a
@@ -95,23 +94,23 @@ short_of limit line r few h = by_form (form_of limit line r h)
 pub syntax : IsSyntaxExactly
 syntax limit line r h column what = (λ e. was (form_of limit line r h) e, λ k. now k.1 (short_of limit line r k.0 h))
   where
-    was : Form limit line r → r ≡ reports.Line line (answers.Syntax column what) → (length line ≤ 65536) × IsSyntaxRefusal line column what
+    was : Form limit line r → r ≡ reports.Line line (answers.Syntax column what) → (length line ≤ 65536) × IsSyntaxAt line column what
     was (long above is) e = absurd cc
     was (short a low is right planned) e =
         let same : a ≡ answers.Syntax column what = cc in
         (low, subst (IsRightAnswer IsManyVariables line limit) same right)
 
-    now : IsSyntaxRefusal line column what → Short line r → r ≡ reports.Line line (answers.Syntax column what)
+    now : IsSyntaxAt line column what → Short line r → r ≡ reports.Line line (answers.Syntax column what)
     now k s = by_kind s.kind
       where
         by_kind : Kind line s.answer → r ≡ reports.Line line (answers.Syntax column what)
         by_kind (no_line c w is refusal) =
-            let front = one_front line refusal.front_length k.front_length refusal.error k.error in
+            let front = one_front line refusal.before k.before refusal.error k.error in
             let columns : c ≡ column = refusal.column_is ∙ ap (λ n. n + 1) front ∙ sym k.column_is in
             let words : w ≡ what = refusal.what_is ∙ ap (what_at line) front ∙ sym k.what_is in
             s.report_is ∙ ap (reports.Line line) (is ∙ ap₂ answers.Syntax columns words)
         by_kind (large c is refusal) = let spelled = large_spelled line c refusal in absurd (grammar_excludes line column what spelled.line_is spelled.spells k)
-        by_kind (linear name is refusal) = absurd (grammar_excludes line column what refusal.line refusal.spells k)
+        by_kind (linear name is refusal) = absurd (grammar_excludes line column what refusal.linear.line refusal.linear.spells k)
         by_kind (not_read is read) = absurd (grammar_excludes line column what read.line read.spells k)
         by_kind (many is m) = absurd (grammar_excludes line column what m.line m.critical.spells k)
         by_kind (one l o d) = absurd (grammar_excludes line column what l o.critical.spells k)
@@ -123,13 +122,13 @@ literal limit line r h = (λ k. (was (form_of limit line r h) k, (k.column, k.re
     was (long above is) k = let e = k.report_is in absurd cc
     was (short a low is right planned) k = low
 
-    now : (column : ℕ) → IsLiteralRefusal line column → Short line r → IsLiteralAnswer line r
+    now : (column : ℕ) → IsLiteralAt line column → Short line r → IsLiteralAnswer line r
     now column k s = by_kind s.kind
       where
         by_kind : Kind line s.answer → IsLiteralAnswer line r
         by_kind (no_line c w is refusal) = let spelled = large_spelled line column k in absurd (grammar_excludes line c w spelled.line_is spelled.spells refusal)
         by_kind (large c is refusal) = record { column = c; report_is = s.report_is ∙ ap (reports.Line line) is; refusal = refusal }
-        by_kind (linear name is refusal) = absurd (small_excludes line column refusal.line refusal.spells refusal.small k)
+        by_kind (linear name is refusal) = absurd (small_excludes line column refusal.linear.line refusal.linear.spells refusal.linear.small k)
         by_kind (not_read is read) = absurd (small_excludes line column read.line read.spells read.small k)
         by_kind (many is m) = absurd (small_excludes line column m.line m.critical.spells m.critical.small k)
         by_kind (one l o d) = absurd (small_excludes line column l o.critical.spells o.critical.small k)
@@ -137,20 +136,17 @@ literal limit line r h = (λ k. (was (form_of limit line r h) k, (k.column, k.re
 pub not_critical : IsNotCriticalExactly
 not_critical = record { only = λ limit line r h w k. was limit line r w (form_of limit line r h) k; answered = λ limit line r h w few k. now line r w k (short_of limit line r few h) }
   where
-    was : (limit : ℕ) (line : List ℕ) (r : Report) (w : Word) → Form limit line r → IsNotCriticalAnswer line w r → IsNotCritical line w
-    was limit line r w (long above is) k = let e = k.report_is in absurd cc
-    was limit line r w (short a low is right planned) k =
-        let e = k.report_is in
-        let same : a ≡ answers.NotCritical k.name = cc in
-        subst (IsNotCritical line) k.name_is (subst (IsRightAnswer IsManyVariables line limit) same right)
+    was : (limit : ℕ) (line : List ℕ) (r : Report) (w : Name) → Form limit line r → r ≡ reports.Line line (answers.NotCritical w) → IsLinearIn line w
+    was limit line r w (long above is) e = absurd cc
+    was limit line r w (short a low is right planned) e = let same : a ≡ answers.NotCritical w = cc in subst (IsRightAnswer IsManyVariables line limit) same right
 
-    now : (line : List ℕ) (r : Report) (w : Word) → IsNotCritical line w → Short line r → IsNotCriticalAnswer line w r ⊎ (r ≡ reports.Line line (answers.Range phases.Line))
+    now : (line : List ℕ) (r : Report) (w : Name) → IsLinearIn line w → Short line r → (r ≡ reports.Line line (answers.NotCritical w)) ⊎ (r ≡ reports.Line line (answers.Range phases.Line))
     now line r w k s = by_kind s.kind
       where
-        by_kind : Kind line s.answer → IsNotCriticalAnswer line w r ⊎ (r ≡ reports.Line line (answers.Range phases.Line))
-        by_kind (no_line c v is refusal) = absurd (grammar_excludes line c v k.line k.spells refusal)
-        by_kind (large c is refusal) = absurd (small_excludes line c k.line k.spells k.small refusal)
-        by_kind (linear name is refusal) = inl (record { name = name; name_is = one_variable_name line (name_text name) w refusal k; report_is = s.report_is ∙ ap (reports.Line line) is })
+        by_kind : Kind line s.answer → (r ≡ reports.Line line (answers.NotCritical w)) ⊎ (r ≡ reports.Line line (answers.Range phases.Line))
+        by_kind (no_line c v is refusal) = absurd (grammar_excludes line c v k.linear.line k.linear.spells refusal)
+        by_kind (large c is refusal) = absurd (small_excludes line c k.linear.line k.linear.spells k.linear.small refusal)
+        by_kind (linear name is refusal) = inl (s.report_is ∙ ap (reports.Line line) (is ∙ ap answers.NotCritical (one_variable_name line name w refusal k)))
         by_kind (not_read is read) = inr (s.report_is ∙ ap (reports.Line line) is)
         by_kind (many is m) = absurd (critical_excludes line m.line w m.critical k)
         by_kind (one l o d) = absurd (critical_excludes line l w o.critical k)
@@ -168,7 +164,7 @@ unbuilt = record { only = λ limit line r h e. was limit line r (form_of limit l
         by_kind : Kind line s.answer → (r ≡ reports.Line line answers.Unbuilt) ⊎ (r ≡ reports.Line line (answers.Range phases.Line))
         by_kind (no_line c v is refusal) = absurd (grammar_excludes line c v m.line m.critical.spells refusal)
         by_kind (large c is refusal) = absurd (small_excludes line c m.line m.critical.spells m.critical.small refusal)
-        by_kind (linear name is refusal) = absurd (critical_excludes line m.line (name_text name) m.critical refusal)
+        by_kind (linear name is refusal) = absurd (critical_excludes line m.line name m.critical refusal)
         by_kind (not_read is read) = inr (s.report_is ∙ ap (reports.Line line) is)
         by_kind (many is n) = inl (s.report_is ∙ ap (reports.Line line) is)
         by_kind (one l o d) = absurd (not_many line l o m)
@@ -187,7 +183,7 @@ decided limit line r h l o = by_kind s.kind
     by_kind : Kind line s.answer → IsDecided line r
     by_kind (no_line c v is refusal) = absurd (grammar_excludes line c v l o.critical.spells refusal)
     by_kind (large c is refusal) = absurd (small_excludes line c l o.critical.spells o.critical.small refusal)
-    by_kind (linear name is refusal) = absurd (critical_excludes line l (name_text name) o.critical refusal)
+    by_kind (linear name is refusal) = absurd (critical_excludes line l name o.critical refusal)
     by_kind (not_read is read) = high phases.Line (s.report_is ∙ ap (reports.Line line) is)
     by_kind (many is m) = absurd (not_many line l o m)
     by_kind (one l' o' d) = by_decided d

@@ -6,12 +6,11 @@ use Rattle.cert_text.specs.declared.report.Phase.TheVariants as phases
 use Rattle.cert_text.specs.declared.report.Phase.{Phase}
 use Rattle.cert_text.specs.declared.report.Report.TheVariants as reports
 use Rattle.cert_text.specs.declared.report.Report.{Report}
-use Rattle.line_syntax.specs.Syntax.{Line, Word}
+use Rattle.line_syntax.specs.Syntax.{Line}
 use Rattle.one_variable_law.specs.Plan.{IsAnswer, IsOneVariable}
 use Rattle.poly_text.specs.declared.name.Name.{Name}
 use Rattle.poly_text.specs.declared.what.What.{What}
-use Rattle.poly_text.specs.Polynomials.{name_text}
-use Rattle.report_law.specs.Items.{IsSyntaxRefusal, IsLiteralRefusal, IsNotCritical}
+use Rattle.line_germ.specs.Reads.{IsSyntaxAt, IsLiteralAt, IsLinearIn}
 use Rattle.report_law.specs.Right.{IsManyVariables}
 use Rattle.std.specs.Prelude.{◌≡◌, ◌↔◌, ◌⊎◌, ℕ, ◌<◌, ◌≤◌, List, length}
 
@@ -23,31 +22,25 @@ IsTooLongExactly = (limit : ℕ) (line : List ℕ) (r : Report) → IsAnswer lim
 abbrev pub IsSyntaxExactly : Type 0
 IsSyntaxExactly =
     (limit : ℕ) (line : List ℕ) (r : Report) → IsAnswer limit line r → (column : ℕ) (what : What)
-    → (r ≡ reports.Line line (answers.Syntax column what)) ↔ ((length line ≤ 65536) × IsSyntaxRefusal line column what)
+    → (r ≡ reports.Line line (answers.Syntax column what)) ↔ ((length line ≤ 65536) × IsSyntaxAt line column what)
 
 -- the report is `literal`, at a column where the first number of the line that is too large begins
 pub record IsLiteralAnswer (line : List ℕ) (r : Report) : Type 0 where
   pub column : ℕ
   pub report_is : r ≡ reports.Line line (answers.Literal column)
-  pub refusal : IsLiteralRefusal line column
+  pub refusal : IsLiteralAt line column
 
 -- a line of at most 65,536 bytes is answered `literal` exactly where it is in the grammar and has a number that is too large
 abbrev pub IsLiteralExactly : Type 0
 IsLiteralExactly =
-    (limit : ℕ) (line : List ℕ) (r : Report) → IsAnswer limit line r → IsLiteralAnswer line r ↔ ((length line ≤ 65536) × ((column : ℕ) × IsLiteralRefusal line column))
-
--- the report names this variable as not critical
-pub record IsNotCriticalAnswer (line : List ℕ) (variable : Word) (r : Report) : Type 0 where
-  pub name : Name
-  pub name_is : name_text name ≡ variable
-  pub report_is : r ≡ reports.Line line (answers.NotCritical name)
+    (limit : ℕ) (line : List ℕ) (r : Report) → IsAnswer limit line r → IsLiteralAnswer line r ↔ ((length line ≤ 65536) × ((column : ℕ) × IsLiteralAt line column))
 
 -- a variable is answered as not critical only where its linear coefficient is the first that is not 0; and such a line is answered so, or
 -- `range` in the phase of reading
 pub record IsNotCriticalExactly : Type 0 where
-  pub only : (limit : ℕ) (line : List ℕ) (r : Report) → IsAnswer limit line r → (variable : Word) → IsNotCriticalAnswer line variable r → IsNotCritical line variable
-  pub answered : (limit : ℕ) (line : List ℕ) (r : Report) → IsAnswer limit line r → (variable : Word) → length line ≤ 65536 → IsNotCritical line variable
-      → IsNotCriticalAnswer line variable r ⊎ (r ≡ reports.Line line (answers.Range phases.Line))
+  pub only : (limit : ℕ) (line : List ℕ) (r : Report) → IsAnswer limit line r → (variable : Name) → r ≡ reports.Line line (answers.NotCritical variable) → IsLinearIn line variable
+  pub answered : (limit : ℕ) (line : List ℕ) (r : Report) → IsAnswer limit line r → (variable : Name) → length line ≤ 65536 → IsLinearIn line variable
+      → (r ≡ reports.Line line (answers.NotCritical variable)) ⊎ (r ≡ reports.Line line (answers.Range phases.Line))
 
 -- a line is answered `unbuilt` only where it is critical in more than one variable; and such a line is answered so, or `range` in the
 -- phase of reading

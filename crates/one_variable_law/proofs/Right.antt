@@ -42,7 +42,7 @@ use Rattle.one_variable_law.specs.Reports as reports
 use Rattle.one_variable_law.specs.Reports.{single, zero_jet, limit_of, corank_of}
 use Rattle.one_variable_law.specs.Plan.{IsOneVariable, germ_coefficient, IsFirstTerm, IsFormHigh, IsPlannedAnswer}
 use Rattle.one_variable_law.specs.Answers.{named_of, IsNamedOf, IsNamedAnswer, IsAnswerByTerms, IsAnswerByNames, IsAnswerToGerm, HasNameableFirst, IsReadGerm, AreRowsOf, IsQuotientOf, first_exponent}
-use Rattle.report_law.proofs.Names.{line_names, linear_is, name_text-name_of, name_valid}
+use Rattle.report_law.proofs.Names.{line_names, linear_valid, name_text-name_of, name_valid}
 use Rattle.report_law.proofs.Splitting.{and_both}
 use Rattle.one_variable_law.proofs.Powers.{x_to, variable_is, is_power, coefficient_first-other}
 use Rattle.one_variable_law.proofs.Leading.{coefficient_of, HasFirst, has_first}
@@ -63,7 +63,7 @@ pub record IsGood (bytes : List ℕ) (limit : ℕ) (a : Answer) : Type 0 where
 pub syntax_good : (bytes : List ℕ) (limit column : ℕ) (w : What) → length bytes ≤ 65536 → IsSyntaxAt bytes column w → IsGood bytes limit (answers.Syntax column w)
 syntax_good bytes limit column w short h = record {
   well_formed = let inside = h.error.within in let at = h.column_is in omega arith;
-  right = record { front_length = h.before; error = h.error; column_is = h.column_is; what_is = h.what_is };
+  right = h;
   planned = tt;
 }
 
@@ -76,7 +76,7 @@ literal_good bytes limit column short h = record {
       let two = length-append (h.error.front ++ h.error.digits) h.error.rest in
       let one = length-append h.error.front h.error.digits in
       omega arith;
-  right = record { place = h.before; error = h.error; column_is = h.column_is };
+  right = h;
   planned = tt;
 }
 
@@ -86,7 +86,7 @@ range_good bytes limit h =
     record { well_formed = tt; right = high; planned = high }
 
 pub linear_good : (bytes : List ℕ) (limit : ℕ) (variable : Name) → IsLinearIn bytes variable → IsGood bytes limit (answers.NotCritical variable)
-linear_good bytes limit variable h = let is = linear_is bytes variable h in record { well_formed = is.1; right = is.0; planned = tt }
+linear_good bytes limit variable h = record { well_formed = linear_valid bytes variable h; right = h; planned = tt }
 
 -- ---- the germ has no constant and no linear term
 

@@ -1,6 +1,6 @@
 -- Which refusals exclude each other, since bytes spell one line.
 use Rattle.std.proofs.Common.{◌≡◌, ℕ, ◌+◌, ◌<◌, ◌≤◌, ◌⊎◌, inl, inr, true, List, [], ◌∷◌, ◌++◌, length, drop, IsTrue, sym, ap, ap₂, subst, ◌∙◌, refl, arith, leb-true, append_assoc}
-use Rattle.std.specs.Prelude.{nat_le, slice_index_or}
+use Rattle.std.specs.Prelude.{nat_le, get_or}
 use Rattle.std.specs.List.{list_all}
 use Rattle.std.proofs.lemmas.List.Folds.{list_all-append}
 use Rattle.std.proofs.lemmas.List.{length-append}
@@ -13,7 +13,9 @@ use Rattle.line_syntax.proofs.OneLine.{one_line}
 use Rattle.line_reader.proofs.Held.{spaced_append, one_spaced}
 use Rattle.germ_law.specs.Germ.{IsCritical, IsFirstLinear}
 use Rattle.poly_text.specs.declared.what.What.{What}
-use Rattle.report_law.specs.Items.{IsSyntaxRefusal, IsLiteralRefusal, IsNotCritical}
+use Rattle.poly_text.specs.declared.name.Name.{Name}
+use Rattle.line_germ.specs.Names.{name_of}
+use Rattle.line_germ.specs.Reads.{IsSyntaxAt, IsLiteralAt, IsLinearIn}
 
 -- the bytes spell a line with a number that is too large
 pub record Spelled (line : List ℕ) : Type 0 where
@@ -43,25 +45,25 @@ large_line line n e =
       not_small = λ small. not_all e.before e.after e.digits e.large (ap (list_all is_small_token) (sym e.tokens) ∙ small);
     }
 
-pub large_spelled : (line : List ℕ) (column : ℕ) → IsLiteralRefusal line column → Spelled line
-large_spelled line column h = large_line line h.place h.error
+pub large_spelled : (line : List ℕ) (column : ℕ) → IsLiteralAt line column → Spelled line
+large_spelled line column h = large_line line h.before h.error
 
 -- a line without one has no such number
-pub small_excludes : (line : List ℕ) (column : ℕ) (l : Line) → Spells line l → IsTrue (has_small_literals l) → IsLiteralRefusal line column → ⊥
+pub small_excludes : (line : List ℕ) (column : ℕ) (l : Line) → Spells line l → IsTrue (has_small_literals l) → IsLiteralAt line column → ⊥
 small_excludes line column l spells small h =
     let s = large_spelled line column h in
     s.not_small (subst (λ m. IsTrue (has_small_literals m)) (one_line line l s.line_is spells s.spells) small)
 
 -- a line of the grammar has no column where it stops being one
-pub grammar_excludes : (line : List ℕ) (column : ℕ) (what : What) (l : Line) → Spells line l → IsSyntaxRefusal line column what → ⊥
+pub grammar_excludes : (line : List ℕ) (column : ℕ) (what : What) (l : Line) → Spells line l → IsSyntaxAt line column what → ⊥
 grammar_excludes line column what l spells h = h.error.outside (l, spells)
 
 -- a critical line has no linear coefficient
-pub critical_excludes : (line : List ℕ) (l : Line) (w : Word) → IsCritical line l → IsNotCritical line w → ⊥
-critical_excludes line l w critical h =
-    let same : l ≡ h.line = one_line line l h.line critical.spells h.spells in
-    let there : IsCritical line h.line = subst (IsCritical line) same critical in
-    h.first.linear (there.critical h.place h.first.within)
+pub critical_excludes : (line : List ℕ) (l : Line) (v : Name) → IsCritical line l → IsLinearIn line v → ⊥
+critical_excludes line l v critical h =
+    let same : l ≡ h.linear.line = one_line line l h.linear.line critical.spells h.linear.spells in
+    let there : IsCritical line h.linear.line = subst (IsCritical line) same critical in
+    h.linear.first.linear (there.critical h.place h.linear.first.within)
 
 -- the longest front is one
 pub one_front : (line : List ℕ) (n m : ℕ) → IsSyntaxError line n → IsSyntaxError line m → n ≡ m
@@ -85,12 +87,13 @@ one_place l i j h k = elim (below_or i j) [
     below_or : (i j : ℕ) → (i < j) ⊎ ((j < i) ⊎ (i ≡ j))
     below_or i j = grind arith
 
--- and so is its name
-pub one_variable_name : (line : List ℕ) (v w : Word) → IsNotCritical line v → IsNotCritical line w → v ≡ w
+-- and so is its variable
+pub one_variable_name : (line : List ℕ) (v w : Name) → IsLinearIn line v → IsLinearIn line w → v ≡ w
 one_variable_name line v w h k =
-    let same : h.line ≡ k.line = one_line line h.line k.line h.spells k.spells in
-    let place : h.place ≡ k.place = one_place k.line h.place k.place (subst (λ l. IsFirstLinear l h.place) same h.first) k.first in
-    h.variable_is ∙ ap (λ l. slice_index_or (names_of l) h.place []) same ∙ ap (λ i. slice_index_or (names_of k.line) i []) place ∙ sym k.variable_is
+    let same : h.linear.line ≡ k.linear.line = one_line line h.linear.line k.linear.line h.linear.spells k.linear.spells in
+    let place : h.place ≡ k.place = one_place k.linear.line h.place k.place (subst (λ l. IsFirstLinear l h.place) same h.linear.first) k.linear.first in
+    let names : h.names ≡ k.names = sym h.linear.names_are ∙ ap names_of same ∙ k.linear.names_are in
+    h.variable_is ∙ ap (λ ns. name_of (get_or ns h.place [])) names ∙ ap (λ i. name_of (get_or k.names i [])) place ∙ sym k.variable_is
 
 -- ---- the place of the first number that is too large
 

@@ -13,7 +13,6 @@ use Rattle.line_germ.specs.Reads.{IsLinearIn}
 use Rattle.poly_text.specs.declared.name.Name.{Name}
 use Rattle.poly_text.specs.Polynomials.{name_text}
 use Rattle.cert_text.specs.WellFormed.{is_valid_name}
-use Rattle.report_law.specs.Items.{IsNotCritical}
 use Rattle.report_law.proofs.Splitting.{and_both}
 
 -- ---- the names of a line
@@ -137,20 +136,10 @@ name_at [] i all h = absurd (omega arith)
 name_at (x ∷ xs) zero all h = and_left (is_name x) (list_all is_name xs) all
 name_at (x ∷ xs) (suc i) all h = name_at xs i (and_right (is_name x) (list_all is_name xs) all) (omega arith)
 
--- a linear term that is read, in the words of a report
-pub linear_is : (bytes : List ℕ) (v : Name) → IsLinearIn bytes v → IsNotCritical bytes (name_text v) × IsTrue (is_valid_name v)
-linear_is bytes v h =
-    let line = h.linear.line in
+-- the variable of a linear term that is read has a valid name
+pub linear_valid : (bytes : List ℕ) (v : Name) → IsLinearIn bytes v → IsTrue (is_valid_name v)
+linear_valid bytes v h =
     let within : h.place < length h.names = subst (λ ns. h.place < length ns) h.linear.names_are h.linear.first.within in
     let word : Word = get_or h.names h.place [] in
-    let is_word : is_name word ≡ true = name_at h.names h.place (subst (λ ns. list_all is_name ns ≡ true) h.linear.names_are (line_names line h.linear.spells.is_line)) within in (
-      record {
-        line = line;
-        spells = h.linear.spells;
-        small = h.linear.small;
-        place = h.place;
-        first = h.linear.first;
-        variable_is = ap name_text h.variable_is ∙ name_text-name_of word is_word ∙ sym (ap (λ ns. get_or ns h.place []) h.linear.names_are);
-      },
-      ap is_valid_name h.variable_is ∙ name_valid word is_word,
-    )
+    let is_word : is_name word ≡ true = name_at h.names h.place (subst (λ ns. list_all is_name ns ≡ true) h.linear.names_are (line_names h.linear.line h.linear.spells.is_line)) within in
+    ap is_valid_name h.variable_is ∙ name_valid word is_word

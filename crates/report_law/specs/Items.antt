@@ -1,5 +1,5 @@
 -- The conditions of a certificate, one for each item: what each says of the line and of the report.
-use Rattle.std.specs.Prelude.{◌≡◌, ℕ, ◌+◌, ◌*◌, ◌≤◌, IsTrue, List, [], ◌++◌, map, length, slice_index_or, find, unwrap_or, nat_le, sum, ◌==◌, if◌then◌else◌}
+use Rattle.std.specs.Prelude.{◌≡◌, ℕ, ◌+◌, ◌*◌, ◌≤◌, IsTrue, List, [], ◌++◌, map, length, slice_index_or, find, unwrap_or, nat_le, sum}
 use Rattle.std.specs.List.{list_all, AllByRecursion}
 use Rattle.ring_theory.specs.Ring.{RingOps}
 use Rattle.ring_law.specs.declared.fraction.Frac.{Frac}
@@ -10,9 +10,8 @@ use Rattle.poly_law.specs.ExpList.{ExpList, exps}
 use Rattle.poly_law.specs.Exps.{same}
 use Rattle.poly_law.specs.Poly.{IsInvertible, SameTo, MatherFails, IsMatherRow, IsQuotientTable}
 use Rattle.poly_law.specs.Polynomials.{substitute}
-use Rattle.line_syntax.specs.Syntax.{Line, Word, names_of}
-use Rattle.line_syntax.specs.Grammar.{Spells, IsSyntaxError, IsLiteralError, has_small_literals}
-use Rattle.germ_law.specs.Germ.{germ_of, IsFirstLinear}
+use Rattle.line_syntax.specs.Syntax.{Line, names_of}
+use Rattle.germ_law.specs.Germ.{germ_of}
 use Rattle.determinacy.specs.declared.row.MatherRow.{MatherRow}
 use Rattle.milnor_alg.specs.declared.quotient.TableRow.{TableRow}
 use Rattle.normal_forms.specs.declared.family.Family.{Family}
@@ -21,8 +20,6 @@ use Rattle.normal_forms.specs.Monomials.{in_eight, monomials_of, monomials_to, m
 use Rattle.normal_forms.specs.Families.{sum_of, kind_of}
 use Rattle.normal_forms.specs.Units.{unit_values, IsModulus}
 use Rattle.normal_forms.specs.Forms.{IsFormOf, IsPatternOf}
-use Rattle.poly_text.specs.declared.what.What.{What}
-use Rattle.poly_text.specs.declared.what.What.TheVariants.{Byte, End}
 use Rattle.poly_text.specs.Polynomials.{name_text}
 use Rattle.cert_text.specs.declared.report.Carried.{Carried}
 use Rattle.cert_text.specs.declared.report.Named as named_type
@@ -30,30 +27,6 @@ use Rattle.cert_text.specs.declared.report.Limit as limit_type
 use Rattle.cert_text.specs.declared.report.Unresolved as unresolved_type
 use Rattle.jet_law.specs.Canonical.{monomial_in}
 use Rattle.report_law.specs.Polynomials.{PolynomialOver, terms_in, jet_at, value_at, lifted, residual_part, coefficient_at}
-
--- ---- refusals
-
--- the line stops being the front of a line of the grammar at this column, counted from 1, at a byte or at its end
-pub record IsSyntaxRefusal (bytes : List ℕ) (column : ℕ) (what : What) : Type 0 where
-  pub front_length : ℕ
-  pub error : IsSyntaxError bytes front_length
-  pub column_is : column ≡ front_length + 1
-  pub what_is : what ≡ (if front_length == length bytes then End else Byte)
-
--- the first number of the line that is too large begins at this column, counted from 1
-pub record IsLiteralRefusal (bytes : List ℕ) (column : ℕ) : Type 0 where
-  pub place : ℕ
-  pub error : IsLiteralError bytes place
-  pub column_is : column ≡ place + 1
-
--- the line is in the grammar with small numbers, and this is its first variable whose linear coefficient is not 0
-pub record IsNotCritical (bytes : List ℕ) (variable : Word) : Type 0 where
-  pub line : Line
-  pub spells : Spells bytes line
-  pub small : IsTrue (has_small_literals line)
-  pub place : ℕ
-  pub first : IsFirstLinear line place
-  pub variable_is : variable ≡ slice_index_or (names_of line) place []
 
 -- ---- the parts of a carried germ
 

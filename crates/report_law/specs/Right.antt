@@ -6,6 +6,7 @@ use Rattle.line_syntax.specs.Grammar.{Spells, has_small_literals}
 use Rattle.germ_law.specs.Germ.{IsCritical, line_limit}
 use Rattle.germ_law.specs.Reading.{IsReadingHigh}
 use Rattle.line_jet_law.specs.LineJets.{order_limit}
+use Rattle.line_germ.specs.Reads.{IsSyntaxAt, IsLiteralAt}
 use Rattle.cert_text.specs.declared.report.Carried.{Carried}
 use Rattle.cert_text.specs.declared.report.Phase.TheVariants as phases
 use Rattle.cert_text.specs.declared.report.Phase.{Phase}
@@ -13,7 +14,6 @@ use Rattle.cert_text.specs.declared.report.Answer.{Answer}
 use Rattle.cert_text.specs.declared.report.Answer.TheVariants as answers
 use Rattle.cert_text.specs.declared.report.Report.{Report}
 use Rattle.cert_text.specs.declared.report.Report.TheVariants as reports
-use Rattle.report_law.specs.Items.{IsSyntaxRefusal, IsLiteralRefusal}
 use Rattle.report_law.specs.Valid.{IsValidAnswer}
 use Rattle.cert_text.specs.WellFormed.{IsWellFormed}
 
@@ -57,8 +57,8 @@ IsRangeOf bytes limit phases.Milnor = IsCriticalLine bytes
 -- the answer to a line of at most 65,536 bytes is right; `IsUnbuilt` says which lines are not built yet: past reading, no other answer
 -- than `unbuilt` or `range` is right for them
 abbrev pub IsRightAnswer : (List ℕ → Type 0) → List ℕ → ℕ → Answer → Type 0
-IsRightAnswer IsUnbuilt bytes limit (answers.Syntax column what) = IsSyntaxRefusal bytes column what
-IsRightAnswer IsUnbuilt bytes limit (answers.Literal column) = IsLiteralRefusal bytes column
+IsRightAnswer IsUnbuilt bytes limit (answers.Syntax column what) = IsSyntaxAt bytes column what
+IsRightAnswer IsUnbuilt bytes limit (answers.Literal column) = IsLiteralAt bytes column
 IsRightAnswer IsUnbuilt bytes limit (answers.NotCritical variable) = IsValidAnswer bytes (answers.NotCritical variable)
 IsRightAnswer IsUnbuilt bytes limit (answers.Range phase) = IsRangeOf bytes limit phase
 IsRightAnswer IsUnbuilt bytes limit answers.Unbuilt = IsUnbuilt bytes

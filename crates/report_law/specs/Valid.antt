@@ -4,7 +4,7 @@ use Rattle.std.specs.List.{AllByRecursion}
 use Rattle.line_syntax.specs.Syntax.{Line}
 use Rattle.germ_law.specs.Germ.{IsCritical, line_limit}
 use Rattle.normal_forms.specs.Patterns.{order_of}
-use Rattle.poly_text.specs.Polynomials.{name_text}
+use Rattle.line_germ.specs.Reads.{IsSyntaxAt, IsLiteralAt, IsLinearIn}
 use Rattle.cert_text.specs.declared.report.Named as named_type
 use Rattle.cert_text.specs.declared.report.Outside as outside_type
 use Rattle.cert_text.specs.declared.report.Limit as limit_type
@@ -15,7 +15,7 @@ use Rattle.cert_text.specs.declared.report.Report.{Report}
 use Rattle.cert_text.specs.declared.report.Report.TheVariants as reports
 use Rattle.report_law.specs.declared.item.Item.{Item}
 use Rattle.report_law.specs.declared.item.Item.TheVariants as items
-use Rattle.report_law.specs.Items.{IsSyntaxRefusal, IsLiteralRefusal, IsNotCritical, IsShape, IsInvertibleChange, IsCarriedTo, IsForm, AreUnits, IsModulusOf, AreMatherRows, IsMilnorTable, IsInPattern, IsLimitFunctional, IsDetermined}
+use Rattle.report_law.specs.Items.{IsShape, IsInvertibleChange, IsCarriedTo, IsForm, AreUnits, IsModulusOf, AreMatherRows, IsMilnorTable, IsInPattern, IsLimitFunctional, IsDetermined}
 
 -- the item is true of a named report of these bytes, where l is the line that they spell
 abbrev pub NamedItem : List ℕ → Line → named_type.Named → Item → Type 0
@@ -92,9 +92,9 @@ unresolved_items = items.Germ ∷ items.Shape ∷ items.Inverse ∷ items.Carry 
 
 -- all items are true of the answer to the line with these bytes; range and unbuilt answers have no items and are not valid
 abbrev pub IsValidAnswer : List ℕ → Answer → Type 0
-IsValidAnswer bytes (answers.Syntax column what) = IsSyntaxRefusal bytes column what
-IsValidAnswer bytes (answers.Literal column) = IsLiteralRefusal bytes column
-IsValidAnswer bytes (answers.NotCritical variable) = IsNotCritical bytes (name_text variable)
+IsValidAnswer bytes (answers.Syntax column what) = IsSyntaxAt bytes column what
+IsValidAnswer bytes (answers.Literal column) = IsLiteralAt bytes column
+IsValidAnswer bytes (answers.NotCritical variable) = IsLinearIn bytes variable
 IsValidAnswer bytes (answers.Range phase) = ⊥
 IsValidAnswer bytes answers.Unbuilt = ⊥
 IsValidAnswer bytes (answers.Named r) = (l : Line) × AllByRecursion (NamedItem bytes l r) named_items

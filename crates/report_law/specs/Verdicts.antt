@@ -3,7 +3,7 @@ use Rattle.std.specs.Prelude.{◌≡◌, ℕ, ◌<◌, List, [], ◌∷◌, ◌+
 use Rattle.std.specs.List.{AllByRecursion}
 use Rattle.line_syntax.specs.Syntax.{Line}
 use Rattle.germ_law.specs.Germ.{IsCritical, line_limit}
-use Rattle.poly_text.specs.Polynomials.{name_text}
+use Rattle.line_germ.specs.Reads.{IsSyntaxAt, IsLiteralAt, IsLinearIn}
 use Rattle.cert_text.specs.declared.report.Answer.{Answer}
 use Rattle.cert_text.specs.declared.report.Answer.TheVariants as answers
 use Rattle.cert_text.specs.declared.report.Report.{Report}
@@ -11,7 +11,6 @@ use Rattle.cert_text.specs.declared.report.Report.TheVariants as reports
 use Rattle.cert_text.specs.Text.{report_text}
 use Rattle.cert_text.specs.WellFormed.{IsWellFormed}
 use Rattle.cert_text.specs.BadText.{IsBadText}
-use Rattle.report_law.specs.Items.{IsSyntaxRefusal, IsLiteralRefusal, IsNotCritical}
 use Rattle.report_law.specs.declared.item.Item.{Item}
 use Rattle.report_law.specs.declared.item.Item.TheVariants as items
 use Rattle.report_law.specs.declared.verdict.Verdict.{Verdict}
@@ -79,9 +78,9 @@ abbrev pub IsFalseRefusal : Type 0 → Item → Type 0
 IsFalseRefusal Holds item = (item ≡ items.Refusal) × (Holds → ⊥)
 
 abbrev pub IsInvalidAnswer : List ℕ → Answer → Item → Type 0
-IsInvalidAnswer bytes (answers.Syntax column what) item = IsFalseRefusal (IsSyntaxRefusal bytes column what) item
-IsInvalidAnswer bytes (answers.Literal column) item = IsFalseRefusal (IsLiteralRefusal bytes column) item
-IsInvalidAnswer bytes (answers.NotCritical variable) item = IsFalseRefusal (IsNotCritical bytes (name_text variable)) item
+IsInvalidAnswer bytes (answers.Syntax column what) item = IsFalseRefusal (IsSyntaxAt bytes column what) item
+IsInvalidAnswer bytes (answers.Literal column) item = IsFalseRefusal (IsLiteralAt bytes column) item
+IsInvalidAnswer bytes (answers.NotCritical variable) item = IsFalseRefusal (IsLinearIn bytes variable) item
 IsInvalidAnswer bytes (answers.Range phase) item = ⊥
 IsInvalidAnswer bytes answers.Unbuilt item = ⊥
 IsInvalidAnswer bytes (answers.Named r) item = IsFirstFalseOf bytes (λ l. NamedItem bytes l r) named_items item
