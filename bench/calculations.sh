@@ -1,7 +1,8 @@
 #!/usr/bin/env bash
-# Times calculations by lines of the program probe: a million products and inverses in a cubic field, a million searches for a root of a cubic,
-# products of dense jets, substitutions in dense jets, and Mather's test and the quotient of germs, dense ones among them. For each: the
-# beginning of its answer, seconds, peak memory. With words: the line that they make.
+# Times calculations by lines of the program probe: a million products and inverses of fractions and in fields of degree 1, 2, 3 and 6, a million searches for a
+# root of a cubic, the check of a triangle of lines over a tower, products of dense jets, substitutions in dense jets, and Mather's test and the quotient of germs,
+# dense ones among them. Reading the line's numbers and writing the answer is timed with each calculation. For each: the beginning of its answer, seconds,
+# peak memory. With words: the line that they make.
 set -eu
 top="$(cd "$(dirname "${BASH_SOURCE[0]}")/.." && pwd)"
 probe="$top/crates/probe/out/probe"
@@ -53,9 +54,19 @@ if [ $# -gt 0 ]; then
     timed "$@"
     exit
 fi
-timed repeat 1000000 element product 't^3-2' '-7/3+2*t-5/2*t^2' '4/5-t+8/3*t^2'
-timed repeat 1000000 element inverse 't^3-2' 0 0 '-7/3+2*t-5/2*t^2'
+timed repeat 1000000 number product -7/3 4/5
+timed repeat 1000000 number inverse -7/3
+# in_algebra ALGEBRA A B: products of A and B, and inverses of A.
+in_algebra() {
+    timed repeat 1000000 element product "$1" "$2" "$3"
+    timed repeat 1000000 element inverse "$1" 0 0 "$2"
+}
+in_algebra Q -7/3 4/5
+in_algebra 't^2-2' '-7/3+2*t' '4/5-t'
+in_algebra 't^3-2' '-7/3+2*t-5/2*t^2' '4/5-t+8/3*t^2'
+in_algebra 't^3+2 ; s^2+108' '-7/3+2*t-5/2*t^2+s-1/2*s*t+2/3*s*t^2' '4/5-t+8/3*t^2-s+3/2*s*t-s*t^2'
 timed repeat 1000000 number root-cubic 79225091884405108389834752 85968058271978839505460 -85968058271978839424
+timed repeat 1000 "$(grep -m 1 '^report check germ x^3+2\*y^3+4\*z^3-6\*x\*y\*z+x^4|answer named' "$top/crates/probe/stdin")"
 f="$(dense 3 0 16 969 0)"
 timed jet mul Q 3 16 "$f" "$f"
 f="$(dense 8 0 12 500 0)"
@@ -76,6 +87,7 @@ done
 local_algebra 5 'x^3+y^5'
 local_algebra 8 'x^3+3*x^2*y^2+y^7'
 local_algebra 6 'x*y*z+x^4+y^5+z^6'
+local_algebra 4 'x^3+2*y^3+4*z^3-6*x*y*z+x^4'
 local_algebra 3 'x^3+2*x^2*y-x^2*z+3*x*y^2+x*y*z-2*x*z^2+y^3-y^2*z+2*y*z^2+3*z^3'
 local_algebra 12 '[x,y,z] 0'
 local_algebra 16 '[x,y,z] 0'
