@@ -3,7 +3,7 @@ use Rattle.std.proofs.Common.{◌≡◌, ◌≢◌, ℕ, ◌+◌, ◌<◌, ◌�
 use Rattle.std.specs.Prelude.{◌==◌, ◌||◌, ◌&&◌, nat_lt, nat_le}
 use Rattle.std.specs.List.{list_all}
 use Rattle.std.proofs.lemmas.Bool.Decides.{nat_tests}
-use Rattle.line_syntax.specs.Syntax.{Word, Line, names_of, is_name}
+use Rattle.line_syntax.specs.Syntax.{Line, names_of, is_name}
 use Rattle.line_syntax.specs.Grammar.{Spells, has_small_literals}
 use Rattle.line_syntax.proofs.Bools.{and_left, and_right}
 use Rattle.line_syntax.proofs.OneLine.{one_line}
