@@ -16,7 +16,7 @@ impl Ring for AlgebraField {
     type Elem = Ext<Frac>;
 
     ghost use Rattle.ext_algebra.specs.Algebra.{Value as AlgebraValue, IsFieldAlgebra, algebra_meaning};
-    ghost use Rattle.ext_algebra.specs.AlgebraLaws.{algebra_meaning_laws};
+    ghost use Rattle.ext_algebra.specs.AlgebraLaws.{algebra_meaning_laws, algebra_heights};
 
     ghost Value = { λ f. AlgebraValue f.algebra };
 
@@ -25,6 +25,8 @@ impl Ring for AlgebraField {
     ghost meaning = { λ f. algebra_meaning f.algebra };
 
     ghost laws = { λ f _. algebra_meaning_laws f.algebra };
+
+    ghost heights = { λ f _. algebra_heights f.algebra };
 
     fn zero(&self) -> Ext<Frac> {
         let ring = AlgebraRing {
@@ -77,9 +79,11 @@ impl Ring for AlgebraField {
 }
 
 impl Field for AlgebraField {
-    ghost use Rattle.ext_algebra.specs.AlgebraLaws.{algebra_inverts};
+    ghost use Rattle.ext_algebra.specs.AlgebraLaws.{algebra_inverts, algebra_inverse_heights};
 
     ghost inverts = { λ f h. algebra_inverts f.algebra h.irreducible };
+
+    ghost inverse_heights = { λ f _. algebra_inverse_heights f.algebra };
 
     fn inv(&self, a: Ext<Frac>) -> Result<Option<Ext<Frac>>, Range> {
         match self.algebra {

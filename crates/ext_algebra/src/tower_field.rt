@@ -50,7 +50,7 @@ impl Ring for TowerField {
     ghost use Rattle.ext_theory.specs.Extension.{Quadratic, Cubic};
     ghost use Rattle.ext_algebra.specs.declared.algebra.Algebra.TheVariants as algebras;
     ghost use Rattle.ext_algebra.specs.Algebra.{IsFieldAlgebra, algebra_meaning};
-    ghost use Rattle.ext_algebra.specs.AlgebraLaws.{algebra_meaning_laws};
+    ghost use Rattle.ext_algebra.specs.AlgebraLaws.{algebra_meaning_laws, algebra_heights};
 
     ghost Value = { λ _. Cubic (Quadratic Rational) };
 
@@ -59,6 +59,8 @@ impl Ring for TowerField {
     ghost meaning = { λ f. algebra_meaning (algebras.Tower f.m2 f.m1 f.m0 f.d) };
 
     ghost laws = { λ f _. algebra_meaning_laws (algebras.Tower f.m2 f.m1 f.m0 f.d) };
+
+    ghost heights = { λ f _. algebra_heights (algebras.Tower f.m2 f.m1 f.m0 f.d) };
 
     fn zero(&self) -> Ext<Frac> {
         let Self { m2, m1, m0, d } = *self;
@@ -119,9 +121,11 @@ impl Ring for TowerField {
 
 impl Field for TowerField {
     ghost use Rattle.ext_algebra.specs.declared.algebra.Algebra.TheVariants as algebras;
-    ghost use Rattle.ext_algebra.specs.AlgebraLaws.{algebra_inverts};
+    ghost use Rattle.ext_algebra.specs.AlgebraLaws.{algebra_inverts, algebra_inverse_heights};
 
     ghost inverts = { λ f h. algebra_inverts (algebras.Tower f.m2 f.m1 f.m0 f.d) h.irreducible };
+
+    ghost inverse_heights = { λ f _. algebra_inverse_heights (algebras.Tower f.m2 f.m1 f.m0 f.d) };
 
     fn inv(&self, a: Ext<Frac>) -> Result<Option<Ext<Frac>>, Range> {
         let Self { m2, m1, m0, d } = *self;

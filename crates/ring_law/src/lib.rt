@@ -2,7 +2,7 @@
 #![tactic(auto)]
 
 ghost use Rattle.std.specs.Prelude.{◌≡◌, ◌≢◌, ℕ, ◌≤◌, ◌^◌, IfOk, IfErr, IfSome, IsTrue, ◌↔◌, MatchOption};
-ghost use Rattle.ring_theory.specs.Scalars.{Meaning, MeaningLaws, HasInverses, SumIsHigh};
+ghost use Rattle.ring_theory.specs.Scalars.{Meaning, MeaningLaws, HeightLaws, HasInverses, InverseHeightLaws, SumIsHigh};
 
 mod fraction;
 
@@ -67,6 +67,8 @@ pub trait Ring {
         ensures { IsTrue result ↔ ((meaning self.now).value a ≡ (meaning self.now).value b) };
 
     ghost laws: { (r : Self) → is_ring r → MeaningLaws (meaning r) };
+
+    ghost heights: { (r : Self) → is_ring r → HeightLaws (meaning r).scalars };
 }
 
 pub trait Field: Ring {
@@ -81,4 +83,6 @@ pub trait Field: Ring {
         ensures cause { OnRange result (2 ^ 120 ≤ (Self.meaning self.now).scalars.inverse_height ((Self.meaning self.now).value a)) };
 
     ghost inverts: { (r : Self) → Self.is_ring r → HasInverses (Self.meaning r).scalars };
+
+    ghost inverse_heights: { (r : Self) → Self.is_ring r → InverseHeightLaws (Self.meaning r).scalars };
 }

@@ -19,6 +19,7 @@ impl Ring for Rationals {
     type Elem = Frac;
 
     ghost use Rattle.ring_theory.specs.Rational.{Rational};
+    ghost use Rattle.ring_theory.proofs.HeightLaws.{rational_heights};
     ghost use Rattle.ring_law.specs.Fraction.{rational_meaning};
     ghost use Rattle.ring_law.proofs.FractionLaws.{rational_meaning_laws};
 
@@ -29,6 +30,8 @@ impl Ring for Rationals {
     ghost meaning = { λ _. rational_meaning };
 
     ghost laws = { λ _ _. rational_meaning_laws };
+
+    ghost heights = { λ _ _. rational_heights };
 
     fn zero(&self) -> Frac {
         Frac { num: 0, den: 1 }
@@ -75,8 +78,11 @@ impl Ring for Rationals {
 
 impl Field for Rationals {
     ghost use Rattle.ring_theory.proofs.RationalLaws.{rational_inverts};
+    ghost use Rattle.ring_theory.proofs.HeightLaws.{rational_inverse_heights};
 
     ghost inverts = { λ _ _. rational_inverts };
+
+    ghost inverse_heights = { λ _ _. rational_inverse_heights };
 
     fn inv(&self, a: Frac) -> Result<Option<Frac>, Range>
         requires elem { IsFrac a }
