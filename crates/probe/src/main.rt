@@ -10,6 +10,7 @@ mod numbers;
 mod reports;
 mod rows;
 mod scalars;
+mod shapes;
 mod texts;
 mod words;
 
@@ -24,6 +25,7 @@ fn put_answer(alloc: Global, words: &mut Words, out: &mut Vec<u8>) -> Result<(),
     match group {
         b"family" => return texts::put_family(words.rest, out),
         b"modulus" => return forms::put_modulus(alloc, words, out),
+        b"pair" => return shapes::put_pair(words, out),
         _ => {}
     }
     let command = words.next();

@@ -12,6 +12,7 @@ use poly_text::{Name, What, put_name, put_number, put_polynomial};
 use report_jet::lifted_jet;
 use report_law::{Finding, put_finding};
 use report_reader::{ReadError, read_report};
+use ring_law::NoMemory;
 use std::alloc::{AllocError, Global};
 
 // The bytes with another one for each of these.
@@ -98,18 +99,32 @@ fn repeated(alloc: Global, words: &mut Words) -> Result<Vec<u8>, Stop> {
     Ok(line)
 }
 
-// Appends the text of the report that is read from a text, or what the checker finds of the text.
-fn put_report(alloc: Global, text: &[u8], is_check: bool, out: &mut Vec<u8>) -> Result<(), Stop> {
+// The text that is written for the report that is read from a text.
+fn copy_of(alloc: Global, text: &[u8]) -> Result<Vec<u8>, ReadError> {
+    let report = read_report(alloc, text)?;
+    match write_report(alloc, &report) {
+        Ok(copy) => Ok(copy),
+        Err(_) => Err(ReadError::NoMemory),
+    }
+}
+
+// What the checker finds of a text.
+fn finding_of(alloc: Global, text: &[u8]) -> Result<Finding, NoMemory> {
     match read_report(alloc, text) {
-        Ok(report) => {
-            if is_check {
-                let verdict = check(alloc, &report)?;
-                return Ok(put_finding(out, Finding::Report(verdict))?);
-            }
-            let text = write_report(alloc, &report)?;
-            Ok(out.extend_from_slice(&replaced(alloc, &text, b'\n', b'|')?)?)
-        }
-        Err(ReadError::BadText { offset }) => { Ok(put_finding(out, Finding::BadText { offset })?) }
+        Ok(report) => match check(alloc, &report) {
+            Ok(verdict) => Ok(Finding::Report(verdict)),
+            Err(e) => Err(e),
+        },
+        Err(ReadError::BadText { offset }) => Ok(Finding::BadText { offset }),
+        Err(ReadError::NoMemory) => Err(NoMemory),
+    }
+}
+
+// Appends the text that is written for the report that is read from a text.
+fn put_copy(alloc: Global, text: &[u8], out: &mut Vec<u8>) -> Result<(), Stop> {
+    match copy_of(alloc, text) {
+        Ok(copy) => Ok(out.extend_from_slice(&replaced(alloc, &copy, b'\n', b'|')?)?),
+        Err(ReadError::BadText { offset }) => Ok(put_finding(out, Finding::BadText { offset })?),
         Err(ReadError::NoMemory) => Err(Stop::NoMemory),
     }
 }
@@ -130,13 +145,11 @@ pub(crate) fn calculate(
             let limit = words.small()?;
             put_read(alloc, limit, &repeated(alloc, words)?, out)
         }
-        b"copy" => put_report(
-            alloc,
-            &replaced(alloc, words.rest, b'|', b'\n')?,
-            false,
-            out,
-        ),
-        b"check" => put_report(alloc, &replaced(alloc, words.rest, b'|', b'\n')?, true, out),
+        b"copy" => put_copy(alloc, &replaced(alloc, words.rest, b'|', b'\n')?, out),
+        b"check" => {
+            let found = finding_of(alloc, &replaced(alloc, words.rest, b'|', b'\n')?)?;
+            Ok(put_finding(out, found)?)
+        }
         _ => Err(Stop::Words),
     }
 }

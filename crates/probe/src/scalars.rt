@@ -11,7 +11,7 @@ ghost use Rattle.cert_text.specs.WellFormed.{IsJetOf};
 ghost use Rattle.probe.specs.Over.{IsOver};
 
 use crate::words::{Stop, Words};
-use crate::{changes, forms, jets, rows, texts};
+use crate::{changes, forms, jets, rows, shapes, texts};
 use ext_algebra::{
     Algebra, AlgebraField, AlgebraRing, Ext, ExtError, ExtField, ExtRing, TowerField, Triple,
 };
@@ -185,6 +185,7 @@ fn answer_over<F: Field<Elem = Ext<Frac>> + Drop>(
         (b"change", _) => changes::calculate(alloc, command, over, words, out),
         (b"row", _) => rows::calculate(alloc, command, over, words, out),
         (b"form", _) => forms::calculate(alloc, command, over, words, out),
+        (b"shape", _) => shapes::calculate(alloc, command, over, words, out),
         (b"element", b"inverse") => {
             let a = over.element(words)?;
             match over.field.inv(a)? {
