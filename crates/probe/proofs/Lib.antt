@@ -1,4 +1,5 @@
 mod Constants
+mod Fields
 mod LowTerms
 mod Rationals
 mod RowLemmas

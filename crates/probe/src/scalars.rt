@@ -12,9 +12,7 @@ ghost use Rattle.probe.specs.Over.{IsOver};
 
 use crate::words::{Stop, Words};
 use crate::{changes, forms, jets, rows, shapes, texts};
-use ext_algebra::{
-    Algebra, AlgebraField, AlgebraRing, Ext, ExtError, ExtField, ExtRing, TowerField, Triple,
-};
+use ext_algebra::{Algebra, AlgebraField, AlgebraRing, Ext, ExtField, ExtRing, TowerField, Triple};
 use jet_poly::{Jet, from_terms};
 use mono_exp::Exp;
 use poly_text::put_element;
@@ -277,21 +275,20 @@ fn field_of(algebra: Algebra) -> Result<AlgebraField, Stop>
     ensures field { IfOk result (λ f. ⟦<AlgebraField as Ring>⟧.is_ring f) }
     ensures algebra { IfOk result (λ f. f.algebra ≡ algebra) }
 {
-    let refusal = match algebra {
-        Algebra::Rational => None,
+    match algebra {
+        Algebra::Rational => Ok(AlgebraField { algebra }),
         Algebra::Quadratic { m1, m0 } => {
-            ExtField::new(ExtRing::quadratic(Rationals, m1, m0)).err()
+            let _ = ExtField::new(ExtRing::quadratic(Rationals, m1, m0))?;
+            Ok(AlgebraField { algebra })
         }
         Algebra::Cubic { m2, m1, m0 } => {
-            ExtField::new(ExtRing::cubic(Rationals, m2, m1, m0)).err()
+            let _ = ExtField::new(ExtRing::cubic(Rationals, m2, m1, m0))?;
+            Ok(AlgebraField { algebra })
         }
-        Algebra::Tower { m2, m1, m0, d } => TowerField::new(m2, m1, m0, d).err(),
-    };
-    match refusal {
-        None => Ok(AlgebraField { algebra }),
-        Some(ExtError::Reducible { root }) => Err(Stop::Reducible { root }),
-        Some(ExtError::Square { root }) => Err(Stop::Square { root }),
-        Some(ExtError::Range(_)) => Err(Stop::Range),
+        Algebra::Tower { m2, m1, m0, d } => {
+            let _ = TowerField::new(m2, m1, m0, d)?;
+            Ok(AlgebraField { algebra })
+        }
     }
 }
 

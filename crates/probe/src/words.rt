@@ -5,7 +5,7 @@ ghost use Rattle.ring_law.specs.Fraction.{IsFrac};
 ghost use Rattle.ext_algebra.specs.Algebra.{IsAlgebra};
 
 use coord_change::ChangeError;
-use ext_algebra::Algebra;
+use ext_algebra::{Algebra, ExtError};
 use poly_text::put_fraction;
 use ring_law::{Fault, Frac, NoMemory, Range};
 use std::alloc::{AllocError, AllocFailed, Global};
@@ -64,6 +64,16 @@ impl From<AllocError> for Stop {
 impl<T: Drop> From<AllocFailed<T>> for Stop {
     fn from(_e: AllocFailed<T>) -> Stop {
         Stop::NoMemory
+    }
+}
+
+impl From<ExtError> for Stop {
+    fn from(e: ExtError) -> Stop {
+        match e {
+            ExtError::Reducible { root } => Stop::Reducible { root },
+            ExtError::Square { root } => Stop::Square { root },
+            ExtError::Range(_) => Stop::Range,
+        }
     }
 }
 
@@ -135,7 +145,10 @@ impl<'a> Words<'a> {
             text.extend_from_slice(b" ; ")?;
             text.extend_from_slice(self.next())?;
         }
-        read_algebra(&text).ok_or(Stop::Words)
+        match read_algebra(&text) {
+            Some(algebra) => Ok(algebra),
+            None => Err(Stop::Words),
+        }
     }
 
     /// The fraction that the next word spells in lowest terms.
