@@ -57,6 +57,7 @@ awk -v tick="$tick" '{ ticks[$1 " " $2 " " $3] = $4 }
         close(sorted)
         printf "%-18s %8.0f %8.0f %8.0f\n", "sum", sums["proof"], sums["tests"], sums["edits"]
     }' "$work/samples"
-# Bash's own count of what the ended children took: user and system time, as 1m2.345s.
-times | awk 'NR == 2 { for (i = 1; i <= 2; i++) { split($i, part, /[ms]/); total += 60 * part[1] + part[2] } printf "processor minutes of the run: %.1f, in %.1f minutes\n", total / 60, '"$SECONDS"' / 60 }'
+# Bash's own count of what the ended children took: user and system time, as 1m2.345s. A pipe would count those of its own shell.
+times >"$work/times"
+awk 'NR == 2 { for (i = 1; i <= 2; i++) { split($i, part, /[ms]/); total += 60 * part[1] + part[2] } printf "processor minutes of the run: %.1f, in %.1f minutes\n", total / 60, '"$SECONDS"' / 60 }' "$work/times"
 exit "$status"
