@@ -19,7 +19,7 @@ timed() {
     while now="$(awk '/VmHWM/ { print $2 }' "/proc/$process/status" 2>/dev/null)" && [ -n "$now" ]; do peak="$now"; done
     wait "$process"
     end="$(date +%s.%N)"
-    awk -v words="$*" -v text="$(cat "$answer")" -v a="$start" -v b="$end" -v peak="$peak" \
+    awk -v words="$(printf '%.60s' "$*")" -v text="$(head -c 24 "$answer")" -v a="$start" -v b="$end" -v peak="$peak" \
         'BEGIN { printf "%-60.60s %-24.24s seconds %6.2f, peak memory %s kB\n", words, text, b - a, peak }'
 }
 

@@ -36,6 +36,7 @@ sample() {
 }
 
 # The run, the lines of its log with their times, and the samples.
+: >"$work/log"
 rt ci "$@" >"$work/log" 2>&1 &
 run=$!
 tail -n +1 -f --pid "$run" "$work/log" | while IFS= read -r line; do printf '%6d  %s\n' "$SECONDS" "$line"; done &
