@@ -25,6 +25,7 @@ use Rattle.jet_poly.proofs.GatheredLemmas.{weaker}
 use Rattle.jacobian_row.specs.Rows.{polynomial_at}
 use Rattle.jacobian_row.proofs.ListSteps.{same_default}
 use Rattle.milnor_alg.specs.declared.quotient.TableRow.{TableRow}
+use Rattle.milnor_alg.specs.Rows.{row_of}
 use Rattle.determinacy.specs.Tests.{IsMonomialIn}
 use Rattle.normal_forms.specs.Monomials.{in_eight, monomials_to}
 use Rattle.cert_text.specs.declared.report.Carried.{Carried}
@@ -93,7 +94,7 @@ module _ (r : named_type.Named) where
   -- ---- the values
 
   pub values_are : (b : ExpList n) (j : ℕ) → images.value_in (algebra_meaning c.algebra) n table b j ≡ values_of_row r b j
-  values_are b j = get_or-values c.algebra (images.row_in n table b).values j
+  values_are b j = get_or-values c.algebra (row_of n table b).values j
 
   -- ---- the rows
 
@@ -131,11 +132,11 @@ module _ (r : named_type.Named) where
       (subst (λ z. SameTo (exps n) ring c.order (term (exps n) ring (exp_of n row.monomial) ++ (poly_ops (exps n) ring).neg z) (combination (exps n) ring (jet_at n c.algebra row.multipliers) (residual_of c))) (sym (basis_same row)) h)
 
   pub rows_to : IsWhole r → (partials : List (List (Exp × Ext Frac))) → ArePartialLists (algebra_meaning c.algebra) n (residual_of c) partials → AllByRecursion (Printed partials) table
-      → (b : ExpList n) → degree (exps n) b ≤ c.order → IsTrueRow b (images.row_in n table b)
+      → (b : ExpList n) → degree (exps n) b ≤ c.order → IsTrueRow b (row_of n table b)
   rows_to whole partials are h = of_rows n c.order table whole IsTrueRow (weaker (Printed partials) (λ row. IsTrueRow (exp_of n row.monomial) row) (true_row partials are) table h)
 
   pub rows_from : IsWhole r → (partials : List (List (Exp × Ext Frac))) → ArePartialLists (algebra_meaning c.algebra) n (residual_of c) partials
-      → ((b : ExpList n) → degree (exps n) b ≤ c.order → IsTrueRow b (images.row_in n table b)) → AllByRecursion (Printed partials) table
+      → ((b : ExpList n) → degree (exps n) b ≤ c.order → IsTrueRow b (row_of n table b)) → AllByRecursion (Printed partials) table
   rows_from whole partials are h = weaker (λ row. IsTrueRow (exp_of n row.monomial) row) (Printed partials) (printed_row partials are) table (to_rows n c.order table whole IsTrueRow h)
 
   -- ---- the whole item

@@ -13,6 +13,7 @@ use Rattle.ext_algebra.specs.Algebra.{ops, scalars, value_in}
 use Rattle.determinacy.specs.declared.row.MatherRow.{MatherRow}
 use Rattle.milnor_alg.specs.declared.quotient.JetQuotient.{JetQuotient}
 use Rattle.milnor_alg.specs.declared.quotient.TableRow.{TableRow}
+use Rattle.milnor_alg.specs.Rows.{no_row, row_of}
 use Rattle.poly_law.specs.Sums.{unit_at, multiple}
 use Rattle.poly_law.specs.ExpList.{exps}
 use Rattle.poly_law.specs.Exps.{same}
@@ -23,7 +24,7 @@ use Rattle.cert_text.specs.declared.report.Carried.{Carried}
 use Rattle.cert_text.specs.declared.report.Named as named_type
 use Rattle.jet_law.specs.Canonical.{monomial_in}
 use Rattle.report_law.specs.Polynomials.{terms_in, jet_at, value_at, residual_part, zero_element}
-use Rattle.report_law.specs.Items.{residual_of, row_of, basis_of, values_of_row, multipliers_of_row, AreMatherRows, IsMilnorTable}
+use Rattle.report_law.specs.Items.{residual_of, basis_of, values_of_row, multipliers_of_row, AreMatherRows, IsMilnorTable}
 use Rattle.one_variable_law.specs.Reports as reports
 use Rattle.one_variable_law.specs.Reports.{whole, power, single, zero_jet, carried_of}
 use Rattle.one_variable_law.proofs.Powers.{x_to, row_adds_up, row_starts, power_table}
@@ -111,7 +112,7 @@ module _ (name : Name) (s : ℕ) (high : 2 ≤ s) (c q : Frac) (h : IsInverseMul
 
     row_at : (e : ℕ) → e ≤ suc s → row_of 1 R.quotient.table (x_to e) ≡ table_row s q e
     row_at e within =
-        ap (λ o. unwrap_or o (record { monomial = in_eight []; values = []; multipliers = [] }))
+        ap (λ o. unwrap_or o no_row)
         (find_listed (table_row s q) (λ row. same (exps 1) (monomial_in 1 row.monomial.e) (x_to e)) e (λ j. refl) 0 (suc s + 1) (omega arith) (omega arith))
 
     basis_at : (i : ℕ) → i < s → basis_of R i ≡ x_to i

@@ -1,5 +1,5 @@
 -- The conditions of a certificate, one for each item: what each says of the line and of the report.
-use Rattle.std.specs.Prelude.{◌≡◌, ℕ, ◌+◌, ◌*◌, ◌≤◌, IsTrue, List, [], ◌++◌, map, length, slice_index_or, find, unwrap_or, nat_le, sum}
+use Rattle.std.specs.Prelude.{◌≡◌, ℕ, ◌+◌, ◌*◌, ◌≤◌, IsTrue, List, [], ◌++◌, map, length, slice_index_or, nat_le, sum}
 use Rattle.std.specs.List.{list_all, AllByRecursion}
 use Rattle.ring_theory.specs.Ring.{RingOps}
 use Rattle.ring_law.specs.declared.fraction.Frac.{Frac}
@@ -7,13 +7,12 @@ use Rattle.ext_algebra.specs.declared.algebra.Algebra.{Algebra}
 use Rattle.ext_algebra.specs.declared.algebra.Ext.{Ext}
 use Rattle.ext_algebra.specs.Algebra.{Value, ops, scalars, value_in, IsInverse}
 use Rattle.poly_law.specs.ExpList.{ExpList, exps}
-use Rattle.poly_law.specs.Exps.{same}
 use Rattle.poly_law.specs.Poly.{IsInvertible, SameTo, MatherFails, IsMatherRow, IsQuotientTable}
 use Rattle.poly_law.specs.Polynomials.{substitute}
 use Rattle.line_syntax.specs.Syntax.{Line, names_of}
 use Rattle.germ_law.specs.Germ.{germ_of}
 use Rattle.determinacy.specs.declared.row.MatherRow.{MatherRow}
-use Rattle.milnor_alg.specs.declared.quotient.TableRow.{TableRow}
+use Rattle.milnor_alg.specs.Rows.{row_of}
 use Rattle.normal_forms.specs.declared.family.Family.{Family}
 use Rattle.normal_forms.specs.declared.pattern.Pattern.{Pattern}
 use Rattle.normal_forms.specs.Monomials.{in_eight, monomials_of, monomials_to, monomials_in, is_split, square_of, square_variables}
@@ -112,10 +111,6 @@ IsRowOf c row =
 pub record AreMatherRows (c : Carried) (rows : List (MatherRow (Ext Frac))) : Type 0 where
   pub monomials : map (λ row. row.monomial) rows ≡ map in_eight (monomials_of c.corank (c.order + 1))
   pub each : AllByRecursion (IsRowOf c) rows
-
--- the row of a monomial
-abbrev pub row_of : (n : ℕ) → List (TableRow (Ext Frac)) → ExpList n → TableRow (Ext Frac)
-row_of n table m = unwrap_or (find (λ row. same (exps n) (monomial_in n row.monomial.e) m) table) (record { monomial = in_eight []; values = []; multipliers = [] })
 
 -- the monomials of the basis, by number
 abbrev pub basis_of : (r : named_type.Named) → ℕ → ExpList r.carried.corank
