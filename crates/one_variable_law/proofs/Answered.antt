@@ -47,7 +47,6 @@ use Rattle.milnor_alg.specs.Rows.{row_of}
 use Rattle.jet_quotient.specs.Quotients as quotients
 use Rattle.jet_quotient.proofs.AnswerFacts.{degrees_low}
 use Rattle.normal_forms.specs.Monomials.{in_eight}
-use Rattle.normal_forms.specs.Monomials as reported
 use Rattle.normal_forms.proofs.Padded.{in_eight-in}
 use Rattle.poly_text.specs.declared.name.Name.{Name}
 use Rattle.cert_text.specs.declared.report.Carried.{Carried}
@@ -57,7 +56,7 @@ use Rattle.cert_text.specs.WellFormed.{is_zero_element, is_term_of, is_residual_
 use Rattle.jet_law.specs.Canonical.{monomial_in}
 use Rattle.report_law.specs.Polynomials.{terms_in, jet_at, value_at, zero_element}
 use Rattle.report_law.specs.Items.{residual_of, basis_of, values_of_row, multipliers_of_row, IsRowOf, AreMatherRows, IsMilnorTable}
-use Rattle.report_law.proofs.Listing.{same_monomials, same_monomials_to, listed_as}
+use Rattle.report_law.proofs.Listing.{listed_as}
 use Rattle.report_law.proofs.Splitting.{and_both}
 use Rattle.one_variable_law.specs.Reports.{carried_of}
 use Rattle.one_variable_law.proofs.Listing.{none_without_variables, one_at_most, few_below, monomial_valid}
@@ -154,10 +153,9 @@ module _ (k : ℕ) (within : k ≤ 16) (g : JetTerms (Ext Frac)) (few : g.n ≤ 
         let c = one_at_most g.n k few in
         omega arith
 
-    monomials_are : map (λ row. row.monomial) rows ≡ map in_eight (reported.monomials_of g.n (k + 1))
+    monomials_are : map (λ row. row.monomial) rows ≡ map in_eight (monomials_of g.n (k + 1))
     monomials_are =
         listed_as g.n (map (λ row. row.monomial) rows) (monomials_of g.n (k + 1)) (each_image (tests.IsRow meaning g k) (IsMonomialIn g.n) (λ row. row.monomial) (λ row h. h.monomial) rows are.each) (list rows ∙ are.monomials)
-        ∙ ap (map in_eight) (sym (same_monomials g.n (k + 1)))
       where
         list : (rs : List (MatherRow (Ext Frac))) → map (λ a. exponents g.n a.e) (map (λ row. row.monomial) rs) ≡ map (λ row. exponents g.n row.monomial.e) rs
         list [] = refl
@@ -362,7 +360,7 @@ module _ (k : ℕ) (within : k ≤ 16) (g : JetTerms (Ext Frac)) (few : g.n ≤ 
 
         pub table_is : IsMilnorTable R
         table_is = record {
-          monomials = listed_as g.n (map (λ row. row.monomial) q.table) (monomials_below g.n (k + 1)) (all_in low q is) (list low q is q.table ∙ is.monomials) ∙ ap (map in_eight) (sym (same_monomials_to g.n k ∙ ap (monomials_below g.n) (let e : suc k ≡ k + 1 = omega arith in e)));
+          monomials = listed_as g.n (map (λ row. row.monomial) q.table) (monomials_below g.n (k + 1)) (all_in low q is) (list low q is q.table ∙ is.monomials);
           quotient =
               subst (λ f. IsQuotientTable (exps g.n) (ops algebras.Rational) k f (length q.basis) (basis_of R) (values_of_row R) (multipliers_of_row R)) (sym residual)
               (subst (λ b. IsQuotientTable (exps g.n) (ops algebras.Rational) k (polynomial_of meaning g) (length q.basis) b (values_of_row R) (multipliers_of_row R)) basis_same
