@@ -25,14 +25,15 @@ use Rattle.jet_poly.proofs.GatheredLemmas.{weaker}
 use Rattle.jacobian_row.specs.Rows.{polynomial_at}
 use Rattle.jacobian_row.proofs.ListSteps.{same_default}
 use Rattle.milnor_alg.specs.declared.quotient.TableRow.{TableRow}
+use Rattle.milnor_alg.specs.Rows.{row_of}
 use Rattle.determinacy.specs.Tests.{IsMonomialIn}
-use Rattle.normal_forms.specs.Monomials.{in_eight, monomials_to}
+use Rattle.normal_forms.specs.Monomials.{in_eight}
 use Rattle.cert_text.specs.declared.report.Carried.{Carried}
 use Rattle.cert_text.specs.declared.report.Named as named_type
 use Rattle.cert_text.specs.WellFormed.{IsWellFormedNamed, IsWellFormedTableRow, is_residual_monomial, is_monomial_in}
 use Rattle.report_law.specs.Polynomials.{value_at, jet_at}
 use Rattle.report_law.specs.Items.{residual_of, basis_of, values_of_row, IsMilnorTable}
-use Rattle.report_law.proofs.Listing.{listed_as, kept_list, same_monomials_to}
+use Rattle.report_law.proofs.Listing.{listed_as, kept_list}
 use Rattle.report_jet.proofs.ReportJets.{get_or-values}
 use Rattle.check_rows.specs.Lists.{ArePartialLists, list_at}
 use Rattle.check_rows.specs.Products.{sum_of_products}
@@ -65,18 +66,22 @@ module _ (r : named_type.Named) where
 
   -- ---- the monomials of the table
 
-  pub monomials_to_whole : IsWellFormedNamed r → map (λ row. row.monomial) table ≡ map in_eight (monomials_to n c.order) → IsWhole r
+  next : c.order + 1 ≡ suc c.order
+  next = omega arith
+
+  pub monomials_to_whole : IsWellFormedNamed r → map (λ row. row.monomial) table ≡ map in_eight (monomials_below n (c.order + 1)) → IsWhole r
   monomials_to_whole w e =
       let few : n ≤ 8 = let p = w.carried.corank in let q = w.carried.few_names in omega arith in
       sym (map-map (λ (b : Exp). exponents n b.e) (λ (row : TableRow (Ext Frac)). row.monomial) table)
-      ∙ ap (map (λ (b : Exp). exponents n b.e)) (e ∙ ap (map in_eight) (same_monomials_to n c.order))
-      ∙ kept_list n (monomials_below n (suc c.order)) few (below_are_long n (suc c.order))
+      ∙ ap (map (λ (b : Exp). exponents n b.e)) e
+      ∙ kept_list n (monomials_below n (c.order + 1)) few (below_are_long n (c.order + 1))
+      ∙ ap (monomials_below n) next
 
-  pub whole_to_monomials : IsWellFormedNamed r → IsWhole r → map (λ row. row.monomial) table ≡ map in_eight (monomials_to n c.order)
+  pub whole_to_monomials : IsWellFormedNamed r → IsWhole r → map (λ row. row.monomial) table ≡ map in_eight (monomials_below n (c.order + 1))
   whole_to_monomials w e =
       listed_as n (map (λ row. row.monomial) table) (monomials_below n (suc c.order)) (table_monomials r w)
       (map-map (λ (b : Exp). exponents n b.e) (λ (row : TableRow (Ext Frac)). row.monomial) table ∙ e)
-      ∙ ap (map in_eight) (sym (same_monomials_to n c.order))
+      ∙ ap (λ k. map in_eight (monomials_below n k)) (sym next)
 
   -- ---- the basis
 
@@ -93,7 +98,7 @@ module _ (r : named_type.Named) where
   -- ---- the values
 
   pub values_are : (b : ExpList n) (j : ℕ) → images.value_in (algebra_meaning c.algebra) n table b j ≡ values_of_row r b j
-  values_are b j = get_or-values c.algebra (images.row_in n table b).values j
+  values_are b j = get_or-values c.algebra (row_of n table b).values j
 
   -- ---- the rows
 
@@ -131,11 +136,11 @@ module _ (r : named_type.Named) where
       (subst (λ z. SameTo (exps n) ring c.order (term (exps n) ring (exp_of n row.monomial) ++ (poly_ops (exps n) ring).neg z) (combination (exps n) ring (jet_at n c.algebra row.multipliers) (residual_of c))) (sym (basis_same row)) h)
 
   pub rows_to : IsWhole r → (partials : List (List (Exp × Ext Frac))) → ArePartialLists (algebra_meaning c.algebra) n (residual_of c) partials → AllByRecursion (Printed partials) table
-      → (b : ExpList n) → degree (exps n) b ≤ c.order → IsTrueRow b (images.row_in n table b)
+      → (b : ExpList n) → degree (exps n) b ≤ c.order → IsTrueRow b (row_of n table b)
   rows_to whole partials are h = of_rows n c.order table whole IsTrueRow (weaker (Printed partials) (λ row. IsTrueRow (exp_of n row.monomial) row) (true_row partials are) table h)
 
   pub rows_from : IsWhole r → (partials : List (List (Exp × Ext Frac))) → ArePartialLists (algebra_meaning c.algebra) n (residual_of c) partials
-      → ((b : ExpList n) → degree (exps n) b ≤ c.order → IsTrueRow b (images.row_in n table b)) → AllByRecursion (Printed partials) table
+      → ((b : ExpList n) → degree (exps n) b ≤ c.order → IsTrueRow b (row_of n table b)) → AllByRecursion (Printed partials) table
   rows_from whole partials are h = weaker (λ row. IsTrueRow (exp_of n row.monomial) row) (Printed partials) (printed_row partials are) table (to_rows n c.order table whole IsTrueRow h)
 
   -- ---- the whole item

@@ -16,7 +16,7 @@ use Rattle.jacobian_row.proofs.NumberLemmas.{number_injective, number_below}
 use Rattle.determinacy.proofs.FailureLemmas.{degree_below}
 use Rattle.jacobian_row.proofs.MonomialLists
 use Rattle.milnor_alg.specs.declared.quotient.TableRow.{TableRow}
-use Rattle.check_quotient.specs.Tables.{no_row, row_in}
+use Rattle.milnor_alg.specs.Rows.{no_row, row_of}
 
 module _ {E : Type 0} (n k : ℕ) (table : List (TableRow E)) (whole : map (λ row. exponents n row.monomial.e) table ≡ monomials_below n (suc k)) where
   abbrev none : TableRow E
@@ -47,7 +47,7 @@ module _ {E : Type 0} (n k : ℕ) (table : List (TableRow E)) (whole : map (λ r
   monomial_is b low = number_injective n (exp_of n (get_or table (number n b) none).monomial) b (number_at (number n b) (place_within b low))
 
   -- the row of a monomial is the one with its number
-  row_is : (b : ExpList n) → degree (exps n) b ≤ k → row_in n table b ≡ get_or table (number n b) none
+  row_is : (b : ExpList n) → degree (exps n) b ≤ k → row_of n table b ≡ get_or table (number n b) none
   row_is b low =
       MonomialLists.found_first (λ row. same (exps n) (exp_of n row.monomial) b) table (number n b) none none (place_within b low)
       (ap (λ x. same (exps n) x b) (monomial_is b low) ∙ ExpLaws.same_refl (exps n) (exps_are n) b)
@@ -62,19 +62,19 @@ module _ {E : Type 0} (n k : ℕ) (table : List (TableRow E)) (whole : map (λ r
       degree_below n k (exp_of n (get_or table i none).monomial)
       (let e = number_at i h in let c = MonomialLists.count-list n (suc k) monomials list in let s = size in omega arith)
 
-  row_self : (i : ℕ) → i < length table → row_in n table (exp_of n (get_or table i none).monomial) ≡ get_or table i none
+  row_self : (i : ℕ) → i < length table → row_of n table (exp_of n (get_or table i none).monomial) ≡ get_or table i none
   row_self i h =
       row_is (exp_of n (get_or table i none).monomial) (degree_at i h) ∙ ap (λ j. get_or table j none) (number_at i h)
 
   -- what holds of each row with its monomial holds of each monomial with its row
-  pub of_rows : (Q : ExpList n → TableRow E → Type 0) → AllByRecursion (λ row. Q (exp_of n row.monomial) row) table → (b : ExpList n) → degree (exps n) b ≤ k → Q b (row_in n table b)
+  pub of_rows : (Q : ExpList n → TableRow E → Type 0) → AllByRecursion (λ row. Q (exp_of n row.monomial) row) table → (b : ExpList n) → degree (exps n) b ≤ k → Q b (row_of n table b)
   of_rows Q all b low =
       let row = get_or table (number n b) none in
       subst (Q b) (sym (row_is b low))
       (subst (λ x. Q x row) (monomial_is b low) (All-from_recursion (λ row. Q (exp_of n row.monomial) row) table all (number n b) none (place_within b low)))
 
   -- and the other way round
-  pub to_rows : (Q : ExpList n → TableRow E → Type 0) → ((b : ExpList n) → degree (exps n) b ≤ k → Q b (row_in n table b)) → AllByRecursion (λ row. Q (exp_of n row.monomial) row) table
+  pub to_rows : (Q : ExpList n → TableRow E → Type 0) → ((b : ExpList n) → degree (exps n) b ≤ k → Q b (row_of n table b)) → AllByRecursion (λ row. Q (exp_of n row.monomial) row) table
   to_rows Q h =
       recursion_from_All (λ row. Q (exp_of n row.monomial) row) table (λ i d l.
       subst (λ row. Q (exp_of n row.monomial) row) (get_or_default table i none d l)

@@ -11,7 +11,8 @@ use Rattle.poly_law.specs.Exps.{same}
 use Rattle.poly_law.specs.ExpList.{ExpList, exps}
 use Rattle.jet_law.specs.Terms.{exp_of}
 use Rattle.milnor_alg.specs.declared.quotient.TableRow.{TableRow}
-use Rattle.check_quotient.specs.Tables.{no_row, row_in, value_in}
+use Rattle.milnor_alg.specs.Rows.{no_row, row_of}
+use Rattle.check_quotient.specs.Tables.{value_in}
 
 -- what holds of an element holds of it however it is read
 pub read_as : {X : Type 0} (P : X → Type 0) (xs : List X) (i : ℕ) (d e : X) → i < length xs → P (get_or xs i d) → P (get_or xs i e)
@@ -29,10 +30,10 @@ module _ {E V : Type 0} (m : Meaning E V) (n : ℕ) (table : List (TableRow E)) 
   of_row j row = get_or (map m.value row.values) j m.scalars.ops.zero
 
   -- the row of a monomial stands at the place of the first that has it
-  pub row_at : (i : ℕ) → i ≡ position_or_len (λ row. same (exps n) (exp_of n row.monomial) a) table → row_in n table a ≡ get_or table i no_row
+  pub row_at : (i : ℕ) → i ≡ position_or_len (λ row. same (exps n) (exp_of n row.monomial) a) table → row_of n table a ≡ get_or table i no_row
   row_at i e = ap (λ o. unwrap_or o no_row) (find_at p table) ∙ unwrap_or-slice_get table (position_or_len p table) no_row ∙ ap (λ k. get_or table k no_row) (sym e)
 
-  row_read : (i : ℕ) (row : TableRow E) → i ≡ position_or_len (λ row. same (exps n) (exp_of n row.monomial) a) table → i < length table → row ≡ get_or table i row → row_in n table a ≡ row
+  row_read : (i : ℕ) (row : TableRow E) → i ≡ position_or_len (λ row. same (exps n) (exp_of n row.monomial) a) table → i < length table → row ≡ get_or table i row → row_of n table a ≡ row
   row_read i row e h is = row_at i e ∙ get_or_default table i no_row row h ∙ sym is
 
   -- where no row has it the values are 0

@@ -1,10 +1,9 @@
 -- Tables of rows, one for each monomial in n variables: the linear map T that takes a monomial to the values of its row.
-use Rattle.std.specs.Prelude.{◌≡◌, ℕ, ◌<◌, List, [], ◌∷◌, map, find, unwrap_or, get_or, length}
+use Rattle.std.specs.Prelude.{◌≡◌, ℕ, ◌<◌, List, ◌∷◌, map, get_or, length}
 use Rattle.std.specs.List.{AllByRecursion}
 use Rattle.ring_theory.specs.Scalars.{Meaning, sum_of}
 use Rattle.poly_law.specs.Sums.{unit_at}
-use Rattle.poly_law.specs.Exps.{same}
-use Rattle.poly_law.specs.ExpList.{ExpList, exps}
+use Rattle.poly_law.specs.ExpList.{ExpList}
 use Rattle.poly_law.specs.Polynomials.{Polynomial}
 use Rattle.jet_law.specs.Heights.{IsHigh}
 use Rattle.jet_law.specs.Terms.{exp_of}
@@ -12,15 +11,7 @@ use Rattle.jacobian_row.specs.Multiples.{product_to}
 use Rattle.jacobian_row.specs.Multipliers.{multiple_at}
 use Rattle.jacobian_row.specs.declared.multiple.Multiple.{Multiple}
 use Rattle.milnor_alg.specs.declared.quotient.TableRow.{TableRow}
-use Rattle.normal_forms.specs.Monomials.{in_eight}
-
--- a row of no monomial
-abbrev pub no_row : {E : Type 0} → TableRow E
-no_row = record { monomial = in_eight []; values = []; multipliers = [] }
-
--- the row of a monomial in n variables: the first one that stands for it
-abbrev pub row_in : {E : Type 0} → (n : ℕ) → List (TableRow E) → ExpList n → TableRow E
-row_in n table a = unwrap_or (find (λ row. same (exps n) (exp_of n row.monomial) a) table) no_row
+use Rattle.milnor_alg.specs.Rows.{row_of}
 
 -- the values of the rows are valid elements
 abbrev pub AreValuesIn : {E V : Type 0} → Meaning E V → List (TableRow E) → Type 0
@@ -29,7 +20,7 @@ AreValuesIn m table = AllByRecursion (λ row. AllByRecursion m.is_elem row.value
 module _ {E V : Type 0} (m : Meaning E V) (n : ℕ) (table : List (TableRow E)) where
   -- the value of T at a monomial in place j, counted from 0
   abbrev pub value_in : ExpList n → ℕ → V
-  value_in a j = get_or (map m.value (row_in n table a).values) j m.scalars.ops.zero
+  value_in a j = get_or (map m.value (row_of n table a).values) j m.scalars.ops.zero
 
   -- the summands of the value of T at f in place j: each coefficient times the value at its monomial
   abbrev pub image_products : ℕ → Polynomial n V → List V

@@ -6,13 +6,13 @@ use Rattle.ring_law.specs.declared.fraction.Frac.{Frac}
 use Rattle.ring_law.specs.declared.fraction.Op.TheVariants.{Root}
 use Rattle.ext_theory.specs.Extension.{Quadratic, Cubic, cubic_at, quadratic_lift}
 use Rattle.small_frac.specs.Exact.{IsSquareRoot}
-use Rattle.small_frac.specs.Roots.{cubic_root_height}
+use Rattle.ext_theory.specs.Roots.{HasNoRoot}
+use Rattle.small_frac.specs.Roots.{IsLeastRootFrac, cubic_root_height}
 use Rattle.ext_algebra.specs.declared.algebra.Ext.{Ext}
 use Rattle.ext_algebra.specs.declared.algebra.Triple.{Triple}
 use Rattle.ext_algebra.specs.declared.field.ExtError.{ExtError}
 use Rattle.ext_algebra.specs.declared.field.ExtError.TheVariants as error
 use Rattle.ext_algebra.specs.Algebra.{cubic_modulus}
-use Rattle.ext_algebra.specs.ExtField.{HasNoRoot, IsLeastRootFrac}
 use Rattle.ext_algebra.specs.ExtRing.{IsExt, ext_value, triple_value}
 
 -- all six components are valid fractions

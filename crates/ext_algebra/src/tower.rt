@@ -7,8 +7,8 @@ ghost use Rattle.ring_law.specs.Fraction.{IsFrac, frac_value};
 ghost use Rattle.ring_law.specs.Refusals.{OnRange};
 ghost use Rattle.ext_theory.specs.Extension.{cubic_at};
 ghost use Rattle.ext_theory.specs.Tower.{nest as nested_value, tower_scalars};
-ghost use Rattle.ext_algebra.specs.Algebra.{sextic_of, IsNoSquare};
-ghost use Rattle.ext_algebra.specs.ExtField.{HasNoRoot};
+ghost use Rattle.ext_algebra.specs.Algebra.{sextic_of};
+ghost use Rattle.ext_theory.specs.Roots.{HasNoRoot, IsNoSquare};
 ghost use Rattle.ext_algebra.specs.ExtRing.{front_of, AllValid, triple_value};
 ghost use Rattle.ext_algebra.specs.Tower.{AreFracs, IsPair, pair_of, pairs_value, IsNested};
 

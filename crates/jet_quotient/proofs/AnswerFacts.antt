@@ -37,8 +37,9 @@ use Rattle.determinacy.specs.Tests.{IsMonomialIn, IsJetOf}
 use Rattle.determinacy.proofs.FailureLemmas.{degree_below}
 use Rattle.milnor_alg.specs.declared.quotient.TableRow.{TableRow}
 use Rattle.milnor_alg.specs.declared.quotient.JetQuotient.{JetQuotient}
+use Rattle.milnor_alg.specs.Rows.{no_row, row_of}
 use Rattle.jet_quotient.specs.Answers.{number_of, begins_at, IsRowBy, AreRowsBy}
-use Rattle.jet_quotient.specs.Quotients.{row_of, basis_at, values_at, multipliers_at, IsTableRow, AreSomeMonomials, IsQuotientOf}
+use Rattle.jet_quotient.specs.Quotients.{basis_at, values_at, multipliers_at, IsTableRow, AreSomeMonomials, IsQuotientOf}
 use Rattle.jacobian_row.proofs.MonomialLists
 use Rattle.jet_quotient.proofs.CallFacts.{rows-count}
 use Rattle.jet_quotient.proofs.TableFacts
@@ -60,9 +61,6 @@ module _ {E V : Type 0} (m : Meaning E V) (c : IsCommRing m.scalars.ops) (set : 
 
   abbrev nothing : Remainder E
   nothing = record { left = []; coefficients = [] }
-
-  abbrev no_row : TableRow E
-  no_row = record { monomial = record { e = [] }; values = []; multipliers = [] }
 
   abbrev left : ExpList n → List (ℕ × E)
   left b = (TableFacts.rest m c set nontrivial g k n multiples monomials rests basis made b).left

@@ -1,8 +1,7 @@
 -- What the quotient answers, and when it is refused.
-use Rattle.std.specs.Prelude.{◌≡◌, ℕ, ◌+◌, ◌⊎◌, Bool, List, [], map, filter, length, get_or, find, unwrap_or}
+use Rattle.std.specs.Prelude.{◌≡◌, ℕ, ◌+◌, ◌⊎◌, Bool, List, [], map, filter, length, get_or}
 use Rattle.std.specs.List.{AllByRecursion}
 use Rattle.ring_theory.specs.Scalars.{Scalars, Meaning}
-use Rattle.poly_law.specs.Exps.{same}
 use Rattle.poly_law.specs.ExpList.{ExpList, exps}
 use Rattle.poly_law.specs.Poly.{IsQuotientTable}
 use Rattle.poly_law.specs.Polynomials.{Polynomial, term_in}
@@ -19,10 +18,7 @@ use Rattle.jacobian_row.specs.Rows.{IsPartialHigh, polynomial_at}
 use Rattle.determinacy.specs.Tests.{IsMonomialIn, IsJetOf}
 use Rattle.milnor_alg.specs.declared.quotient.TableRow.{TableRow}
 use Rattle.milnor_alg.specs.declared.quotient.JetQuotient.{JetQuotient}
-
--- the row of a monomial
-abbrev pub row_of : {E : Type 0} (n : ℕ) → List (TableRow E) → ExpList n → TableRow E
-row_of n table b = unwrap_or (find (λ row. same (exps n) (exp_of n row.monomial) b) table) (record { monomial = record { e = [] }; values = []; multipliers = [] })
+use Rattle.milnor_alg.specs.Rows.{row_of}
 
 -- the monomials of the basis, by number
 abbrev pub basis_at : (n : ℕ) → List Exp → ℕ → ExpList n

@@ -69,11 +69,18 @@ module _ {V : Type 0} (ops : Arithmetic V) where
   on_step (wanted stack f) (Variable i) = Some (seen stack f (ops.variable i))
   on_step (wanted stack f) (Number n) = Some (seen stack f (ops.number n))
   on_step (wanted stack f) (Symbol c) = on_front stack f c
+  on_step (seen stack f a) (Variable i) = None
+  on_step (seen stack f a) (Number n) = None
   on_step (seen stack f a) (Symbol c) = if c == 94 then Some (exponent stack f a) else on_term stack f (times f.product a) c
+  on_step (exponent stack f a) (Variable i) = None
   on_step (exponent stack f a) (Number n) = Some (term stack (frame f.sum f.minus None) (times f.product (ops.power a n)))
+  on_step (exponent stack f a) (Symbol c) = None
+  on_step (divisor stack f t) (Variable i) = None
   on_step (divisor stack f t) (Number n) = if nat_lt 0 n then Some (term stack f (ops.over t n)) else None
+  on_step (divisor stack f t) (Symbol c) = None
+  on_step (term stack f t) (Variable i) = None
+  on_step (term stack f t) (Number n) = None
   on_step (term stack f t) (Symbol c) = on_term stack f t c
-  on_step _ _ = None
 
   -- the state after these steps, if each may stand where it does
   abbrev pub on_steps : Option (State V) → List Step → Option (State V)
@@ -115,11 +122,21 @@ module _ {V : Type 0} (ops : Arithmetic V) (high : HighOperations V) where
 
   -- the step goes through a high operation
   abbrev pub IsStepHigh : State V → Step → Type 0
+  IsStepHigh (wanted stack f) (Variable i) = ⊥
+  IsStepHigh (wanted stack f) (Number n) = ⊥
+  IsStepHigh (wanted stack f) (Symbol c) = ⊥
+  IsStepHigh (seen stack f a) (Variable i) = ⊥
+  IsStepHigh (seen stack f a) (Number n) = ⊥
   IsStepHigh (seen stack f a) (Symbol c) = ((c == 94) ≡ false) × (IsTimesHigh f.product a ⊎ IsEndHigh f (times ops f.product a) c)
+  IsStepHigh (exponent stack f a) (Variable i) = ⊥
   IsStepHigh (exponent stack f a) (Number n) = IsPowerHigh ops high a n ⊎ IsTimesHigh f.product (ops.power a n)
+  IsStepHigh (exponent stack f a) (Symbol c) = ⊥
+  IsStepHigh (divisor stack f t) (Variable i) = ⊥
   IsStepHigh (divisor stack f t) (Number n) = high.quotient t n
+  IsStepHigh (divisor stack f t) (Symbol c) = ⊥
+  IsStepHigh (term stack f t) (Variable i) = ⊥
+  IsStepHigh (term stack f t) (Number n) = ⊥
   IsStepHigh (term stack f t) (Symbol c) = IsEndHigh f t c
-  IsStepHigh _ _ = ⊥
 
   -- the value of an expression that ends here is reached through a high operation
   abbrev pub IsOutcomeHigh : State V → Type 0

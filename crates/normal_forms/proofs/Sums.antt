@@ -12,7 +12,7 @@ use Rattle.poly_law.proofs.ExpLists.{exps_are}
 use Rattle.poly_law.proofs.ExpLaws
 use Rattle.poly_law.proofs.Sums
 use Rattle.mono_exp.specs.declared.exponent.Exp.{Exp}
-use Rattle.mono_exp.specs.Exponents.{IsIn}
+use Rattle.mono_exp.specs.Exponents.{IsIn, monomials_of}
 use Rattle.mono_exp.proofs.Lists.{sum-cons}
 use Rattle.jet_law.specs.Terms.{exp_of, poly_of}
 use Rattle.jet_law.specs.Canonical.{monomial_in}
@@ -26,6 +26,16 @@ use Rattle.normal_forms.specs.Families.{corank_of, sum_of}
 use Rattle.normal_forms.specs.Coefficients.{coefficients_in_sum}
 use Rattle.normal_forms.proofs.Padded.{in_eight-in, exp_of-in_eight}
 use Rattle.normal_forms.proofs.Residual.{residual_in, coefficient-residual}
+
+-- the sum of P8 has all monomials of degree 3 in three variables
+pub sum_of-P8 : sum_of families.P8 ≡ monomials_of 3 3
+unfolding monomials_of
+sum_of-P8 = refl
+
+-- and that of X9 all of degree 4 in two
+pub sum_of-X9 : sum_of families.X9 ≡ monomials_of 2 4
+unfolding monomials_of
+sum_of-X9 = refl
 
 -- each monomial of the sum has as many exponents as the corank
 abbrev are_long : ℕ → List (List ℕ) → Bool

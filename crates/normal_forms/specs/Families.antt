@@ -5,7 +5,6 @@ use Rattle.normal_forms.specs.declared.family.Family.{Family}
 use Rattle.normal_forms.specs.declared.family.Family.TheVariants as families
 use Rattle.normal_forms.specs.declared.kind.Kind.{Kind}
 use Rattle.normal_forms.specs.declared.kind.Kind.TheVariants as kinds
-use Rattle.normal_forms.specs.Monomials.{monomials_of}
 
 -- the numbers of a family's name are such as the list of families has
 abbrev pub is_family : Family → Bool
@@ -89,8 +88,9 @@ sum_of (families.D m) = two 2 1 ∷ two 0 (m - 1) ∷ []
 sum_of families.E6 = two 3 0 ∷ two 0 4 ∷ []
 sum_of families.E7 = two 3 0 ∷ two 1 3 ∷ []
 sum_of families.E8 = two 3 0 ∷ two 0 5 ∷ []
-sum_of families.P8 = monomials_of 3 3
-sum_of families.X9 = monomials_of 2 4
+sum_of families.P8 =
+    three 3 0 0 ∷ three 2 1 0 ∷ three 2 0 1 ∷ three 1 2 0 ∷ three 1 1 1 ∷ three 1 0 2 ∷ three 0 3 0 ∷ three 0 2 1 ∷ three 0 1 2 ∷ three 0 0 3 ∷ []
+sum_of families.X9 = two 4 0 ∷ two 3 1 ∷ two 2 2 ∷ two 1 3 ∷ two 0 4 ∷ []
 sum_of families.J10 = two 3 0 ∷ two 1 4 ∷ two 0 6 ∷ []
 sum_of (families.T p q r) = hyperbolic_sum p q r
 sum_of families.E12 = two 3 0 ∷ two 0 7 ∷ two 1 5 ∷ []

@@ -1,24 +1,9 @@
--- Monomials by the lists of their exponents: all of one degree, and those of a jet with square variables.
-use Rattle.std.specs.Prelude.{ℕ, zero, suc, ◌+◌, ◌-◌, Bool, ◌&&◌, ◌||◌, List, [], ◌∷◌, ◌++◌, map, flat_map, filter, take, drop, replicate, sum, ◌==◌}
+-- Monomials by the lists of their exponents, and those of a jet with square variables.
+use Rattle.std.specs.Prelude.{ℕ, ◌+◌, ◌-◌, Bool, ◌&&◌, ◌||◌, List, [], ◌∷◌, ◌++◌, map, filter, take, drop, replicate, sum, ◌==◌}
 use Rattle.std.specs.List.{list_all, list_any}
 use Rattle.std.specs.Str.{bytes_eq}
 use Rattle.mono_exp.specs.declared.exponent.Exp.{Exp}
 pub use Rattle.mono_exp.specs.Exponents.{numbers_below}
-
--- the numbers n down to 0
-abbrev pub down_from : ℕ → List ℕ
-down_from zero = 0 ∷ []
-down_from (suc n) = suc n ∷ down_from n
-
--- all monomials in n variables of degree d, in the monomial order: the greater exponent at the first place that differs first
-abbrev pub monomials_of : ℕ → ℕ → List (List ℕ)
-monomials_of zero zero = [] ∷ []
-monomials_of zero (suc d) = []
-monomials_of (suc n) d = flat_map (λ e. map (λ m. e ∷ m) (monomials_of n (d - e))) (down_from d)
-
--- all monomials in n variables of degree at most d, in the monomial order: the lower degree first
-abbrev pub monomials_to : ℕ → ℕ → List (List ℕ)
-monomials_to n d = flat_map (monomials_of n) (numbers_below (suc d))
 
 -- the exponents with zeros up to eight places
 abbrev pub in_eight : List ℕ → Exp

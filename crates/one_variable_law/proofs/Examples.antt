@@ -6,6 +6,7 @@ use Rattle.ring_theory.specs.Rational.{rational, rational_zero, rational_add, ra
 use Rattle.ext_algebra.specs.Algebra.{is_element, scalars, value_in}
 use Rattle.poly_law.specs.Exps.{degree}
 use Rattle.poly_law.specs.ExpList.{exps}
+use Rattle.mono_exp.specs.Exponents.{monomials_of}
 use Rattle.line_syntax.specs.Syntax.{Line, first, factor, plain, variable}
 use Rattle.line_syntax.specs.Grammar.{Spells}
 use Rattle.line_syntax.proofs.OneLine.{one_line}
@@ -176,7 +177,7 @@ x_not_critical l h =
     x_linear ((subst (IsCritical (codes "[x] x")) same h).critical 0 (omega arith))
 
 pub refuted : FalseItemsAreRefuted
-unfolding rational gcd rational_zero rational_add rational_mul rational_neg scalars value_in value_at terms_in jet_at lifted residual_part residual_terms is_split
+unfolding monomials_of rational gcd rational_zero rational_add rational_mul rational_neg scalars value_in value_at terms_in jet_at lifted residual_part residual_terms is_split
 refuted = record {
   germ_of_x = x_not_critical;
   shape_of_y = λ h. let e : ◌≡◌ {A = ℕ} 121 120 = ap (λ l. get_or (get_or l 0 []) 0 0) h.0.names in absurd (omega arith);

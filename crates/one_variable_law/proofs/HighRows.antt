@@ -13,17 +13,19 @@ use Rattle.ext_algebra.specs.Algebra.{ops, scalars, value_in}
 use Rattle.determinacy.specs.declared.row.MatherRow.{MatherRow}
 use Rattle.milnor_alg.specs.declared.quotient.JetQuotient.{JetQuotient}
 use Rattle.milnor_alg.specs.declared.quotient.TableRow.{TableRow}
+use Rattle.milnor_alg.specs.Rows.{no_row, row_of}
 use Rattle.poly_law.specs.Sums.{unit_at, multiple}
 use Rattle.poly_law.specs.ExpList.{exps}
 use Rattle.poly_law.specs.Exps.{same}
 use Rattle.poly_law.specs.Poly.{IsQuotientTable, IsMatherRow}
-use Rattle.normal_forms.specs.Monomials.{in_eight, monomials_of, numbers_below, residual_terms}
+use Rattle.mono_exp.specs.Exponents.{numbers_below, monomials_of, monomials_below}
+use Rattle.normal_forms.specs.Monomials.{in_eight, residual_terms}
 use Rattle.poly_text.specs.declared.name.Name.{Name}
 use Rattle.cert_text.specs.declared.report.Carried.{Carried}
 use Rattle.cert_text.specs.declared.report.Named as named_type
 use Rattle.jet_law.specs.Canonical.{monomial_in}
 use Rattle.report_law.specs.Polynomials.{terms_in, jet_at, value_at, residual_part, zero_element}
-use Rattle.report_law.specs.Items.{residual_of, row_of, basis_of, values_of_row, multipliers_of_row, AreMatherRows, IsMilnorTable}
+use Rattle.report_law.specs.Items.{residual_of, basis_of, values_of_row, multipliers_of_row, AreMatherRows, IsMilnorTable}
 use Rattle.one_variable_law.specs.Reports as reports
 use Rattle.one_variable_law.specs.Reports.{whole, power, single, zero_jet, carried_of}
 use Rattle.one_variable_law.proofs.Powers.{x_to, row_adds_up, row_starts, power_table}
@@ -58,7 +60,8 @@ abbrev pub high_quotient : ℕ → Frac → JetQuotient (Ext Frac)
 high_quotient s q = record { basis = listed power 0 s; table = listed (table_row s q) 0 (suc s + 1) }
 
 -- rows for the powers of x in order are rows for the monomials of degree below k
-pub powers_below : (row : ℕ → TableRow (Ext Frac)) → ((e : ℕ) → (row e).monomial ≡ power e) → (k : ℕ) → map (λ row. row.monomial) (listed row 0 k) ≡ map in_eight (flat_map (monomials_of 1) (numbers_below k))
+pub powers_below : (row : ℕ → TableRow (Ext Frac)) → ((e : ℕ) → (row e).monomial ≡ power e) → (k : ℕ) → map (λ row. row.monomial) (listed row 0 k) ≡ map in_eight (monomials_below 1 k)
+unfolding monomials_below
 powers_below row is zero = refl
 powers_below row is (suc k) =
     ap (map (λ row. row.monomial)) (listed_last row 0 k)
@@ -111,7 +114,7 @@ module _ (name : Name) (s : ℕ) (high : 2 ≤ s) (c q : Frac) (h : IsInverseMul
 
     row_at : (e : ℕ) → e ≤ suc s → row_of 1 R.quotient.table (x_to e) ≡ table_row s q e
     row_at e within =
-        ap (λ o. unwrap_or o (record { monomial = in_eight []; values = []; multipliers = [] }))
+        ap (λ o. unwrap_or o no_row)
         (find_listed (table_row s q) (λ row. same (exps 1) (monomial_in 1 row.monomial.e) (x_to e)) e (λ j. refl) 0 (suc s + 1) (omega arith) (omega arith))
 
     basis_at : (i : ℕ) → i < s → basis_of R i ≡ x_to i
@@ -159,7 +162,7 @@ module _ (name : Name) (s : ℕ) (high : 2 ≤ s) (c q : Frac) (h : IsInverseMul
     pub milnor : IsMilnorTable R
     unfolding scalars
     milnor = record {
-      monomials = powers_below (table_row s q) (λ e. refl) (suc s + 1) ∙ ap (λ k. map in_eight (flat_map (monomials_of 1) (numbers_below k))) (let k : suc s + 1 ≡ suc (suc s) = omega arith in k);
+      monomials = powers_below (table_row s q) (λ e. refl) (suc s + 1);
       quotient = subst (λ g. IsQuotientTable (exps 1) rational_ops (suc s) g (length R.quotient.basis) (basis_of R) (values_of_row R) (multipliers_of_row R)) (sym residual_is)
           (subst (λ n. IsQuotientTable (exps 1) rational_ops (suc s) (rational_term (suc s) v) n (basis_of R) (values_of_row R) (multipliers_of_row R)) (sym size_is)
           (power_table rational_ops rational_laws s u v inverse (basis_of R) basis_at (values_of_row R) low_row high_row (multipliers_of_row R) low_multiplier high_multiplier));

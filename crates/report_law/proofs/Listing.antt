@@ -1,45 +1,16 @@
--- The lists of monomials that reports speak of are those of all monomials by their exponents.
-use mathlib.Core.Path.{fun_ext}
-use Rattle.std.proofs.Common.{◌≡◌, ℕ, zero, suc, ◌+◌, ◌-◌, ◌<◌, ◌≤◌, ◌⊎◌, inl, inr, List, [], ◌∷◌, ◌++◌, map, flat_map, length, get_or, refl, sym, ap, ap₂, ◌∙◌, arith}
+-- Lists of monomials by the lists of their exponents.
+use Rattle.std.proofs.Common.{◌≡◌, ℕ, ◌<◌, ◌≤◌, ◌⊎◌, inl, inr, List, [], ◌∷◌, map, length, get_or, refl, sym, ap, ap₂, ◌∙◌, arith}
 use Rattle.std.specs.List.{AllByRecursion}
 use Rattle.std.proofs.lemmas.Bool.{cases_lt}
 use Rattle.std.proofs.lemmas.List.{ext_get_or, get_or_past}
-use Rattle.std.proofs.lemmas.List.Folds.{flat_map-map}
 use Rattle.mono_exp.specs.declared.exponent.Exp.{Exp}
-use Rattle.mono_exp.specs.Exponents as monomials
-use Rattle.mono_exp.specs.Exponents.{exponents, numbers_below}
-use Rattle.mono_exp.proofs.Lists.{Each, each-weaker, numbers_below-add, numbers_are_below, flat_map-same}
+use Rattle.mono_exp.specs.Exponents.{exponents, monomials_of}
+use Rattle.mono_exp.proofs.Lists.{Each, each-weaker}
 use Rattle.mono_exp.proofs.Counting.{IsOf, monomials_are_of}
 use Rattle.mono_exp.proofs.NumberLemmas.{length-exponents, get_or-exponents}
 use Rattle.determinacy.specs.Tests.{IsMonomialIn}
-use Rattle.normal_forms.specs.Monomials.{in_eight, monomials_of, monomials_to, down_from}
+use Rattle.normal_forms.specs.Monomials.{in_eight}
 use Rattle.normal_forms.proofs.Padded.{get_or-in_eight, length-in_eight}
-
--- ---- two spellings of one list
-
--- the numbers d down to 0 are d - 0, .., d - d
-falling : {Y : Type 0} (f : ℕ → List Y) (d : ℕ) → flat_map f (down_from d) ≡ flat_map (λ j. f (d - j)) (numbers_below (suc d))
-falling f zero = refl
-falling {Y} f (suc d) =
-    ap (λ (l : List Y). f (suc d) ++ l) (falling f d ∙ ap (λ (g : ℕ → List Y). flat_map g (numbers_below (suc d))) (fun_ext λ j. ap f (let e : d - j ≡ suc d - (1 + j) = omega arith in e))
-    ∙ sym (flat_map-map (λ j. f (suc d - j)) (λ i. 1 + i) (numbers_below (suc d))))
-    ∙ ap (λ k. f k ++ flat_map (λ j. f (suc d - j)) (map (λ i. 1 + i) (numbers_below (suc d)))) (let e : suc d ≡ suc d - 0 = omega arith in e)
-    ∙ sym (ap (flat_map (λ j. f (suc d - j))) (ap numbers_below (let e : suc (suc d) ≡ 1 + suc d = omega arith in e) ∙ numbers_below-add 1 (suc d)))
-
--- the monomials of one degree, the first exponent falling, or the degree of the rest rising
-pub same_monomials : (n d : ℕ) → monomials_of n d ≡ monomials.monomials_of n d
-unfolding monomials.monomials_of
-same_monomials zero zero = refl
-same_monomials zero (suc d) = refl
-same_monomials (suc n) d =
-    falling (λ e. map (λ m. e ∷ m) (monomials_of n (d - e))) d
-    ∙ flat_map-same (λ j. j < suc d) (λ j. map (λ m. (d - j) ∷ m) (monomials_of n (d - (d - j)))) (λ j. map (λ m. (d - j) ∷ m) (monomials.monomials_of n j))
-    (λ j h. ap (map (λ m. (d - j) ∷ m)) (ap (monomials_of n) (let e : d - (d - j) ≡ j = omega arith in e) ∙ same_monomials n j)) (numbers_below (suc d)) (numbers_are_below (suc d))
-
--- and those of degree at most k
-pub same_monomials_to : (n k : ℕ) → monomials_to n k ≡ monomials.monomials_below n (suc k)
-unfolding monomials.monomials_below
-same_monomials_to n k = ap (λ (f : ℕ → List (List ℕ)). flat_map f (numbers_below (suc k))) (fun_ext λ d. same_monomials n d)
 
 -- ---- a monomial by its exponents
 
@@ -74,11 +45,11 @@ kept_list n [] h all = refl
 kept_list n (e ∷ es) h all = ap₂ (λ x (xs : List (List ℕ)). x ∷ xs) (kept_exponents n e h all.0) (kept_list n es h all.1)
 
 -- monomials are all of degree d in n variables where their exponents are
-pub of_degree : (n d : ℕ) (ms : List Exp) → AllByRecursion (IsMonomialIn n) ms → map (λ a. exponents n a.e) ms ≡ monomials.monomials_of n d → ms ≡ map in_eight (monomials_of n d)
-of_degree n d ms all e = listed_as n ms (monomials.monomials_of n d) all e ∙ ap (map in_eight) (sym (same_monomials n d))
+pub of_degree : (n d : ℕ) (ms : List Exp) → AllByRecursion (IsMonomialIn n) ms → map (λ a. exponents n a.e) ms ≡ monomials_of n d → ms ≡ map in_eight (monomials_of n d)
+of_degree n d ms all e = listed_as n ms (monomials_of n d) all e
 
 -- and the other way round
-pub degree_of : (n d : ℕ) (ms : List Exp) → n ≤ 8 → ms ≡ map in_eight (monomials_of n d) → map (λ a. exponents n a.e) ms ≡ monomials.monomials_of n d
+pub degree_of : (n d : ℕ) (ms : List Exp) → n ≤ 8 → ms ≡ map in_eight (monomials_of n d) → map (λ a. exponents n a.e) ms ≡ monomials_of n d
 degree_of n d ms h e =
-    ap (map (λ (a : Exp). exponents n a.e)) (e ∙ ap (map in_eight) (same_monomials n d))
-    ∙ kept_list n (monomials.monomials_of n d) h (each-weaker (IsOf n d) (λ m. length m ≡ n) (λ m o. o.long) (monomials.monomials_of n d) (monomials_are_of n d))
+    ap (map (λ (a : Exp). exponents n a.e)) e
+    ∙ kept_list n (monomials_of n d) h (each-weaker (IsOf n d) (λ m. length m ≡ n) (λ m o. o.long) (monomials_of n d) (monomials_are_of n d))

@@ -25,7 +25,8 @@ use Rattle.poly_law.proofs.ExpLists.{exps_are}
 use Rattle.poly_law.proofs.ExpLaws as exp_laws
 use Rattle.poly_law.proofs.LawsOverRings as over_rings
 use Rattle.line_syntax.proofs.Bools.{or_other}
-use Rattle.normal_forms.specs.Monomials.{in_eight, monomials_of, numbers_below, square_of}
+use Rattle.mono_exp.specs.Exponents.{monomials_of}
+use Rattle.normal_forms.specs.Monomials.{in_eight, numbers_below, square_of}
 use Rattle.normal_forms.specs.Families.{kind_of}
 use Rattle.normal_forms.specs.Units.{unit_values}
 use Rattle.cert_text.specs.declared.report.Carried.{Carried}

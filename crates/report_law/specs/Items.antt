@@ -1,5 +1,5 @@
 -- The conditions of a certificate, one for each item: what each says of the line and of the report.
-use Rattle.std.specs.Prelude.{◌≡◌, ℕ, ◌+◌, ◌*◌, ◌≤◌, IsTrue, List, [], ◌++◌, map, length, slice_index_or, find, unwrap_or, nat_le, sum}
+use Rattle.std.specs.Prelude.{◌≡◌, ℕ, ◌+◌, ◌*◌, ◌≤◌, IsTrue, List, [], ◌++◌, map, length, slice_index_or, nat_le, sum}
 use Rattle.std.specs.List.{list_all, AllByRecursion}
 use Rattle.ring_theory.specs.Ring.{RingOps}
 use Rattle.ring_law.specs.declared.fraction.Frac.{Frac}
@@ -7,16 +7,16 @@ use Rattle.ext_algebra.specs.declared.algebra.Algebra.{Algebra}
 use Rattle.ext_algebra.specs.declared.algebra.Ext.{Ext}
 use Rattle.ext_algebra.specs.Algebra.{Value, ops, scalars, value_in, IsInverse}
 use Rattle.poly_law.specs.ExpList.{ExpList, exps}
-use Rattle.poly_law.specs.Exps.{same}
 use Rattle.poly_law.specs.Poly.{IsInvertible, SameTo, MatherFails, IsMatherRow, IsQuotientTable}
 use Rattle.poly_law.specs.Polynomials.{substitute}
+use Rattle.mono_exp.specs.Exponents.{monomials_of, monomials_below}
 use Rattle.line_syntax.specs.Syntax.{Line, names_of}
 use Rattle.germ_law.specs.Germ.{germ_of}
 use Rattle.determinacy.specs.declared.row.MatherRow.{MatherRow}
-use Rattle.milnor_alg.specs.declared.quotient.TableRow.{TableRow}
+use Rattle.milnor_alg.specs.Rows.{row_of}
 use Rattle.normal_forms.specs.declared.family.Family.{Family}
 use Rattle.normal_forms.specs.declared.pattern.Pattern.{Pattern}
-use Rattle.normal_forms.specs.Monomials.{in_eight, monomials_of, monomials_to, monomials_in, is_split, square_of, square_variables}
+use Rattle.normal_forms.specs.Monomials.{in_eight, monomials_in, is_split, square_of, square_variables}
 use Rattle.normal_forms.specs.Families.{sum_of, kind_of}
 use Rattle.normal_forms.specs.Units.{unit_values, IsModulus}
 use Rattle.normal_forms.specs.Forms.{IsFormOf, IsPatternOf}
@@ -113,10 +113,6 @@ pub record AreMatherRows (c : Carried) (rows : List (MatherRow (Ext Frac))) : Ty
   pub monomials : map (λ row. row.monomial) rows ≡ map in_eight (monomials_of c.corank (c.order + 1))
   pub each : AllByRecursion (IsRowOf c) rows
 
--- the row of a monomial
-abbrev pub row_of : (n : ℕ) → List (TableRow (Ext Frac)) → ExpList n → TableRow (Ext Frac)
-row_of n table m = unwrap_or (find (λ row. same (exps n) (monomial_in n row.monomial.e) m) table) (record { monomial = in_eight []; values = []; multipliers = [] })
-
 -- the monomials of the basis, by number
 abbrev pub basis_of : (r : named_type.Named) → ℕ → ExpList r.carried.corank
 basis_of r b = monomial_in r.carried.corank (slice_index_or r.quotient.basis b (in_eight [])).e
@@ -132,7 +128,7 @@ multipliers_of_row r m i = jet_at r.carried.corank r.carried.algebra (row_of r.c
 -- one row for each monomial of degree at most the order, in order; the rows show that the jets of the order modulo the partials of the
 -- residual part are free with the basis; and the Milnor number is the size of the basis
 pub record IsMilnorTable (r : named_type.Named) : Type 0 where
-  pub monomials : map (λ row. row.monomial) r.quotient.table ≡ map in_eight (monomials_to r.carried.corank r.carried.order)
+  pub monomials : map (λ row. row.monomial) r.quotient.table ≡ map in_eight (monomials_below r.carried.corank (r.carried.order + 1))
   pub quotient : IsQuotientTable (exps r.carried.corank) (ring_of r.carried) r.carried.order (residual_of r.carried)
       (length r.quotient.basis) (basis_of r) (values_of_row r) (multipliers_of_row r)
   pub number : r.milnor ≡ length r.quotient.basis

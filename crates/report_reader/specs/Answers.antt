@@ -13,21 +13,36 @@ abbrev pub IsPlaced : Answer → Type 0
 IsPlaced (answers.Syntax column what) = column < 2 ^ 32
 IsPlaced (answers.Literal column) = column < 2 ^ 32
 IsPlaced (answers.NotCritical variable) = IsTrue (is_valid_name variable)
-IsPlaced _ = ⊥
+IsPlaced (answers.Range phase) = ⊥
+IsPlaced answers.Unbuilt = ⊥
+IsPlaced (answers.Named r) = ⊥
+IsPlaced (answers.Outside r) = ⊥
+IsPlaced (answers.Limit r) = ⊥
+IsPlaced (answers.Unresolved r) = ⊥
 
 -- without place and without jet
 abbrev pub IsUnplaced : Answer → Type 0
+IsUnplaced (answers.Syntax column what) = ⊥
+IsUnplaced (answers.Literal column) = ⊥
+IsUnplaced (answers.NotCritical variable) = ⊥
 IsUnplaced (answers.Range phase) = Unit {0}
 IsUnplaced answers.Unbuilt = Unit {0}
-IsUnplaced _ = ⊥
+IsUnplaced (answers.Named r) = ⊥
+IsUnplaced (answers.Outside r) = ⊥
+IsUnplaced (answers.Limit r) = ⊥
+IsUnplaced (answers.Unresolved r) = ⊥
 
--- the place of an answer's kind: named, outside, limit, unresolved
+-- the place of an answer's kind: those with neither place nor jet and those about a place in the line, named, outside, limit, unresolved
 abbrev pub kind_of : Answer → ℕ
+kind_of (answers.Syntax column what) = 0
+kind_of (answers.Literal column) = 0
+kind_of (answers.NotCritical variable) = 0
+kind_of (answers.Range phase) = 0
+kind_of answers.Unbuilt = 0
 kind_of (answers.Named r) = 1
 kind_of (answers.Outside r) = 2
 kind_of (answers.Limit r) = 3
 kind_of (answers.Unresolved r) = 4
-kind_of _ = 0
 
 -- a valid answer of this kind or a later one
 abbrev pub IsFromKind : ℕ → Answer → Type 0

@@ -6,7 +6,7 @@ use Rattle.std.specs.Prelude.{SomeIff, MatchOption}
 use Rattle.std.proofs.Math.Nat.{le_of_dvd}
 use Rattle.ring_theory.specs.Height.{lcm, scaled_abs}
 use Rattle.ring_theory.specs.Integers.{int_ops}
-use Rattle.ring_theory.specs.Rational.{Rational, rational, rational_add, rational_neg}
+use Rattle.ring_theory.specs.Rational.{Rational, rational, rational_add, rational_neg, rational_ops}
 use Rattle.ring_theory.proofs.HeightLaws.{le_most, over, over_abs, over_is, Divides, common_den-pos, common_den-divides, lcm_pos, lcm-dvd_right}
 use Rattle.ring_theory.proofs.IntegerLaws.{int_laws}
 use Rattle.ring_theory.proofs.RationalLaws.{IsFraction, den_pos as rational_den_pos, add_is, neg_is, rational_is}
@@ -17,9 +17,10 @@ use Rattle.root_search.proofs.LeastRoot.{near}
 use Rattle.ring_law.specs.declared.fraction.Frac.{Frac}
 use Rattle.ring_law.specs.Fraction.{IsFrac, FitsFrac, frac_value}
 use Rattle.ring_law.proofs.FractionLaws.{value_num, value_den, parts_fit}
-use Rattle.ext_theory.specs.Extension.{Cubic}
+use Rattle.ext_theory.specs.Extension.{Cubic, cubic_at}
+use Rattle.ext_theory.specs.Roots.{IsAtMost, IsLeastRootOf}
 use Rattle.small_frac.specs.Exact.{IsReducedOf}
-use Rattle.small_frac.specs.Roots.{cubic_root_height, IsAtMost, IsLeastRootOf, HasLeastRoot, cubic_of, cubic_den}
+use Rattle.small_frac.specs.Roots.{cubic_root_height, HasLeastRoot, cubic_of, cubic_den}
 use Rattle.small_frac.specs.Scaled.{IsScaled, multiple_of}
 use Rattle.small_frac.specs.declared.root.Scaled.{Scaled}
 use Rattle.small_frac.proofs.RootLaws.{root_of_integer, integer_of_root}
@@ -97,11 +98,11 @@ module _ (m2 m1 m0 : Frac) (v2 : IsFrac m2) (v1 : IsFrac m1) (v0 : IsFrac m0) wh
         (widened m.c0 _ (s.den * s.den) s.den (widened m.c0 _ s.den s.den (over_common m0 s.den v0 h.den_is divides.1.1.0) den_pos) den_pos)
 
     -- no whole root, no root
-    pub no_root : ((y : ℤ) → int_cubic s.a s.b s.c y ≢ pos 0) → HasLeastRoot m2 m1 m0 None
+    pub no_root : ((y : ℤ) → int_cubic s.a s.b s.c y ≢ pos 0) → HasLeastRoot (cubic_at rational_ops m) None
     no_root none = λ x e. let y = integer_of_root m.c2 m.c1 m.c0 x s.a s.b s.c s.den a_fraction b_fraction c_fraction e in none y.0 y.2
 
     -- the least whole root over the common denominator is the least root
-    least : (y : ℤ) → IsLeastRoot s.a s.b s.c y → IsLeastRootOf m (rational y s.den)
+    least : (y : ℤ) → IsLeastRoot s.a s.b s.c y → IsLeastRootOf (cubic_at rational_ops m) (rational y s.den)
     least y r = record {
       root = root_of_integer m.c2 m.c1 m.c0 y s.a s.b s.c s.den a_fraction b_fraction c_fraction r.root;
       least = λ x e.
@@ -114,10 +115,10 @@ module _ (m2 m1 m0 : Frac) (v2 : IsFrac m2) (v1 : IsFrac m1) (v0 : IsFrac m0) wh
     fits y r = let n = near s.a s.b s.c y h.small r.root in let small = h.den_small in parts_fit y s.den den_pos (omega arith) (omega arith)
 
     -- what `make_frac` makes of it
-    pub made : (y : ℤ) (o : Option Frac) → IsLeastRoot s.a s.b s.c y → IsReducedOf y (pos s.den) o → HasLeastRoot m2 m1 m0 o
+    pub made : (y : ℤ) (o : Option Frac) → IsLeastRoot s.a s.b s.c y → IsReducedOf y (pos s.den) o → HasLeastRoot (cubic_at rational_ops m) o
     made y None r (inl e) = absurd (let p = den_pos in omega (arith, ints))
     made y None r (inr not_fits) = absurd (not_fits (fits y r))
-    made y (Some f) r k = record { valid = k.1.valid; least = subst (IsLeastRootOf m) (sym k.1.value_is) (least y r) }
+    made y (Some f) r k = record { valid = k.1.valid; least = subst (IsLeastRootOf (cubic_at rational_ops m)) (sym k.1.value_is) (least y r) }
 
   -- ---- what is too large
 

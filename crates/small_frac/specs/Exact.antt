@@ -7,6 +7,7 @@ use Rattle.ring_law.specs.Refusals.{RefusedBy}
 use Rattle.ring_law.specs.declared.fraction.Op.{Op}
 use Rattle.ring_law.specs.declared.fraction.Op.TheVariants.{Add, Mul}
 use Rattle.ring_law.specs.declared.fraction.Range.{Range}
+use Rattle.ext_theory.specs.Roots.{IsNoSquare}
 
 -- the sum of p and q in lowest terms, where none of the numbers a(d/g), c(b/g), their sum and (b/g)d is above 2^127 - 1 in absolute value
 -- (p = a/b, q = c/d, g the greatest common divisor of b and d); else the refusal of the sum of p and q
@@ -43,4 +44,4 @@ pub record IsSquareRoot (f q : Frac) : Type 0 where
 
 -- the root of q that is not negative, and nothing exactly where q is the square of no rational number
 abbrev pub IsRootOf : Frac → Option Frac → Type 0
-IsRootOf q r = MatchOption r ((x : Rational) → rational_mul x x ≢ frac_value q) (λ f. IsSquareRoot f q)
+IsRootOf q r = MatchOption r (IsNoSquare (frac_value q)) (λ f. IsSquareRoot f q)

@@ -1,5 +1,5 @@
 -- Rational roots of monic polynomials of degree 2 and 3, and how large the numbers are that lead to them.
-use Rattle.std.specs.Prelude.{◌≡◌, ◌≢◌, ℕ, ◌*◌, ◌≤◌, ◌^◌, ◌⊎◌, [], ◌∷◌, Option, MatchOption, pos, ◌≤ℤ◌}
+use Rattle.std.specs.Prelude.{◌≡◌, ℕ, ◌*◌, ◌≤◌, ◌^◌, ◌⊎◌, [], ◌∷◌, Option, MatchOption, pos, ◌≤ℤ◌}
 use Rattle.ring_theory.specs.Height.{most, product_height, sum_height, common_den, scaled_abs}
 use Rattle.ring_theory.specs.Rational.{Rational, rational, rational_add, rational_mul, rational_neg, rational_ops}
 use Rattle.ring_law.specs.Fraction.{IsFrac, frac_value}
@@ -7,11 +7,19 @@ use Rattle.ring_law.specs.declared.fraction.Frac.{Frac}
 use Rattle.ring_law.specs.declared.fraction.Op.TheVariants.{Add, Mul}
 use Rattle.ring_law.specs.declared.fraction.Range.{Range}
 use Rattle.small_frac.specs.Exact.{IsRefusalOf}
-use Rattle.ext_theory.specs.Extension.{Quadratic, Cubic, quadratic_at, cubic_at}
+use Rattle.ext_theory.specs.Extension.{Quadratic, Cubic, quadratic_at}
+use Rattle.ext_theory.specs.Roots.{IsAtMost, HasNoRoot, IsLeastRootOf}
 
--- p ≤ q: the numerator of q - p is not negative
-abbrev pub IsAtMost : Rational → Rational → Type 0
-IsAtMost p q = pos 0 ≤ℤ (rational_add q (rational_neg p)).num
+-- ---- the least root of a function on the rational numbers
+
+-- x is a valid fraction, and its value is the least rational root of f
+pub record IsLeastRootFrac (f : Rational → Rational) (x : Frac) : Type 0 where
+  pub valid : IsFrac x
+  pub least : IsLeastRootOf f (frac_value x)
+
+-- the least rational root of f, and nothing exactly where there is none
+abbrev pub HasLeastRoot : (Rational → Rational) → Option Frac → Type 0
+HasLeastRoot f r = MatchOption r (HasNoRoot f) (λ x. IsLeastRootFrac f x)
 
 -- ---- degree 2
 
@@ -34,7 +42,7 @@ pub record IsRootPair (m1 m0 low high : Frac) : Type 0 where
 
 -- both roots, and nothing exactly where there is no rational root
 abbrev pub HasRoots : Frac → Frac → Option (Frac × Frac) → Type 0
-HasRoots m1 m0 r = MatchOption r ((x : Rational) → quadratic_at rational_ops (quadratic_of m1 m0) x ≢ rational_ops.zero) (λ p. IsRootPair m1 m0 p.0 p.1)
+HasRoots m1 m0 r = MatchOption r (HasNoRoot (quadratic_at rational_ops (quadratic_of m1 m0))) (λ p. IsRootPair m1 m0 p.0 p.1)
 
 abbrev pub four : Rational
 four = rational (pos 4) 1
@@ -92,20 +100,6 @@ pub data QuadraticRefuses (m : Quadratic Rational) (e : Range) : Type 0 where
 -- t^3 + m2 t^2 + m1 t + m0
 abbrev pub cubic_of : Frac → Frac → Frac → Cubic Rational
 cubic_of m2 m1 m0 = record { c0 = frac_value m0; c1 = frac_value m1; c2 = frac_value m2 }
-
--- x is the least root of t^3 + m2 t^2 + m1 t + m0
-pub record IsLeastRootOf (m : Cubic Rational) (x : Rational) : Type 0 where
-  pub root : cubic_at rational_ops m x ≡ rational_ops.zero
-  pub least : (y : Rational) → cubic_at rational_ops m y ≡ rational_ops.zero → IsAtMost x y
-
--- a valid fraction, and its value is the least root
-pub record IsLeastRootFrac (m2 m1 m0 x : Frac) : Type 0 where
-  pub valid : IsFrac x
-  pub least : IsLeastRootOf (cubic_of m2 m1 m0) (frac_value x)
-
--- the least root, and nothing exactly where there is no rational root
-abbrev pub HasLeastRoot : Frac → Frac → Frac → Option Frac → Type 0
-HasLeastRoot m2 m1 m0 r = MatchOption r ((x : Rational) → cubic_at rational_ops (cubic_of m2 m1 m0) x ≢ rational_ops.zero) (λ x. IsLeastRootFrac m2 m1 m0 x)
 
 -- the least common denominator d of the coefficients
 abbrev pub cubic_den : Cubic Rational → ℕ

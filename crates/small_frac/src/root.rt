@@ -2,8 +2,10 @@
 
 ghost use Rattle.std.specs.Prelude.{◌≡◌, ℕ, ◌/◌, ◌<◌, ◌≤◌, ◌^◌, pos, ◌*ℤ◌, unsigned_abs, IfOk, IfErr, SomeIff, MatchOption};
 ghost use Rattle.ring_theory.specs.Height.{lcm};
+ghost use Rattle.ring_theory.specs.Rational.{rational_ops};
 ghost use Rattle.ring_law.specs.Fraction.{IsFrac, frac_value};
 ghost use Rattle.ring_law.specs.Refusals.{OnRange};
+ghost use Rattle.ext_theory.specs.Extension.{cubic_at};
 ghost use Rattle.small_frac.specs.Roots.{HasRoots, QuadraticIsHigh, QuadraticRefuses, DiscriminantRefuses, HalfSumRefuses, quadratic_of, discriminant, discriminant_height, half_sum, half_sum_height, HasLeastRoot, cubic_of, cubic_den, cubic_root_height};
 ghost use Rattle.small_frac.specs.Scaled.{IsScaled, multiple_of};
 
@@ -147,7 +149,7 @@ pub fn rational_root_cubic(m2: Frac, m1: Frac, m0: Frac) -> Result<Option<Frac>,
     requires m2_valid { IsFrac m2 }
     requires m1_valid { IsFrac m1 }
     requires m0_valid { IsFrac m0 }
-    ensures root { IfOk result (HasLeastRoot m2 m1 m0) }
+    ensures root { IfOk result (HasLeastRoot (cubic_at rational_ops (cubic_of m2 m1 m0))) }
     ensures cause { OnRange result (2 ^ 120 ≤ cubic_root_height (cubic_of m2 m1 m0)) }
     ensures names { IfErr result (λ e. e ≡ record { a = m2; b = m0; op = Op.Root }) }
 {

@@ -6,7 +6,8 @@ use Rattle.ring_theory.specs.Rational.{Rational, rational_add, rational_neg, rat
 use Rattle.ring_theory.proofs.RationalLaws.{rational_laws, zero_test, lowest_num, coprime, den_pos}
 use Rattle.ring_theory.proofs.RingReify.{by_ring, reify}
 use Rattle.ext_theory.specs.Extension.{Quadratic}
-use Rattle.small_frac.specs.Roots.{IsAtMost, AreRoots}
+use Rattle.ext_theory.specs.Roots.{IsAtMost}
+use Rattle.small_frac.specs.Roots.{AreRoots}
 use Rattle.ternary_law.specs.Pairs.{Pair, corner, roots, over_root, IsPair, monic}
 
 abs_neg : (n : ℤ) → unsigned_abs (neg_ℤ n) ≡ unsigned_abs n

@@ -4,6 +4,7 @@ use Rattle.ring_theory.specs.Height.{rational_scalars}
 use Rattle.ring_theory.specs.Rational.{Rational, rational_ops, rational_neg}
 use Rattle.ring_theory.specs.Scalars.{Scalars}
 use Rattle.ext_theory.specs.Extension.{Quadratic, quadratic_at}
+use Rattle.ext_theory.specs.Roots.{HasNoRoot}
 use Rattle.small_frac.specs.Roots.{AreRoots}
 use Rattle.move_law.specs.Moves.{over, minus}
 use Rattle.move_law.specs.Shapes.{nth, Line, vertical, slope, over_work}
@@ -39,7 +40,7 @@ module _ (c : List Rational) where
   abbrev pub IsPair : Pair → Type 0
   IsPair corner = (nth q c 0 ≡ rational_ops.zero) × (nth q c 1 ≢ rational_ops.zero)
   IsPair (roots low high) = (nth q c 0 ≢ rational_ops.zero) × AreRoots monic low high
-  IsPair over_root = (nth q c 0 ≢ rational_ops.zero) × ((x : Rational) → quadratic_at rational_ops monic x ≢ rational_ops.zero)
+  IsPair over_root = (nth q c 0 ≢ rational_ops.zero) × HasNoRoot (quadratic_at rational_ops monic)
 
   -- the algebra of the roots
   abbrev pub pair_algebra : Pair → Algebra

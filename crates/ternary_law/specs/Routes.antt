@@ -123,10 +123,6 @@ module _ (f : Polynomial 3 Rational) (route : Route) where
   pair_of = route.pair_form halfway
 
   module _ (p : Pair) where
-    -- the algebra of the roots of the pair
-    abbrev pub route_algebra : Algebra
-    route_algebra = pair_algebra pair_of p
-
     -- the pair rule and the further steps
     abbrev pub next_steps : List (Step (Value (pair_algebra pair_of p)))
     next_steps =

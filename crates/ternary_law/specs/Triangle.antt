@@ -6,8 +6,8 @@ use Rattle.ring_theory.specs.Scalars.{Scalars, sum_of}
 use Rattle.poly_law.specs.ExpList.{ExpList}
 use Rattle.poly_law.specs.Polynomials.{Polynomial, derivative_in}
 use Rattle.mono_exp.specs.Exponents.{numbers_below}
-use Rattle.small_frac.specs.Roots.{IsLeastRootOf}
 use Rattle.ext_theory.specs.Extension.{Cubic, cubic_at}
+use Rattle.ext_theory.specs.Roots.{HasNoRoot, IsLeastRootOf, IsNoSquare}
 use Rattle.ring_formula.specs.declared.Summand.{Summand}
 use Rattle.ring_formula.specs.Formulas.{formula_value, multiplied}
 use Rattle.kill_law.specs.Kill.{first}
@@ -90,9 +90,9 @@ module _ (r : List Rational) where
       let first = q.ops.add (nth q r 1) (q.ops.mul θ r0) in
       r0 ∷ first ∷ q.ops.add (nth q r 2) (q.ops.mul θ first) ∷ []
 
-  -- r(t, 1) has no rational root
-  abbrev pub HasNoRoot : Type 0
-  HasNoRoot = (x : Rational) → cubic_at rational_ops modulus x ≢ rational_ops.zero
+  -- r(t, 1) over its first coefficient, at a rational number
+  abbrev pub modulus_at : Rational → Rational
+  modulus_at = cubic_at rational_ops modulus
 
 -- the pair rule's case for a quadratic form whose first coefficient is not zero
 abbrev pub IsPairOf : List Rational → Pair → Type 0
@@ -101,9 +101,9 @@ IsPairOf c p = (nth rational_scalars c 0 ≢ rational_ops.zero) × IsPair c p
 -- which of the ways holds
 abbrev pub IsWay : List Rational → Points → Type 0
 IsWay r (at_corner p) = (r0 r ≡ rational_ops.zero) × IsPairOf (quotient_by_y r) p
-IsWay r (at_rational θ p) = (r0 r ≢ rational_ops.zero) × IsLeastRootOf (modulus r) θ × IsPairOf (quotient_by r θ) p
-IsWay r (cyclic σ) = (r0 r ≢ rational_ops.zero) × HasNoRoot r × (rational_ops.mul σ σ ≡ discriminant r) × (pos 0 <ℤ σ.num)
-IsWay r in_tower = (r0 r ≢ rational_ops.zero) × HasNoRoot r × ((σ : Rational) → rational_ops.mul σ σ ≢ discriminant r)
+IsWay r (at_rational θ p) = (r0 r ≢ rational_ops.zero) × IsLeastRootOf (modulus_at r) θ × IsPairOf (quotient_by r θ) p
+IsWay r (cyclic σ) = (r0 r ≢ rational_ops.zero) × HasNoRoot (modulus_at r) × (rational_ops.mul σ σ ≡ discriminant r) × (pos 0 <ℤ σ.num)
+IsWay r in_tower = (r0 r ≢ rational_ops.zero) × HasNoRoot (modulus_at r) × IsNoSquare (discriminant r)
 
 -- the algebra of the points
 abbrev pub algebra_of : List Rational → Points → Algebra

@@ -6,7 +6,8 @@ use Rattle.ring_theory.specs.Scalars.{Scalars}
 use Rattle.poly_law.specs.ExpList.{ExpList}
 use Rattle.poly_law.specs.Polynomials.{Polynomial, derivative_in}
 use Rattle.mono_exp.specs.Exponents.{numbers_below}
-use Rattle.small_frac.specs.Roots.{QuadraticIsHigh, IsLeastRootOf, cubic_root_height}
+use Rattle.ext_theory.specs.Roots.{HasNoRoot, IsLeastRootOf}
+use Rattle.small_frac.specs.Roots.{QuadraticIsHigh, cubic_root_height}
 use Rattle.lin_row.specs.Plain.{Among}
 use Rattle.ring_formula.specs.Formulas.{multiplied}
 use Rattle.move_law.specs.Moves.{whole, over, minus}
@@ -18,7 +19,7 @@ use Rattle.ext_algebra.specs.Algebra.{Value, scalars}
 use Rattle.move_law.specs.Algebras.{root_of, lifted}
 use Rattle.ext_theory.specs.Tower.{tower_s}
 use Rattle.ternary_law.specs.Pairs.{monic, pair_asking, pair_root_work}
-use Rattle.ternary_law.specs.Triangle.{Points, at_corner, at_rational, cyclic, in_tower, IsWay, algebra_of, points, slanted, plane_section, slant, r0, modulus, cubic_discriminant, HasNoRoot, quotient_by_y, quotient_by, slope_at, term_at, height_above, gradients}
+use Rattle.ternary_law.specs.Triangle.{Points, at_corner, at_rational, cyclic, in_tower, IsWay, algebra_of, points, slanted, plane_section, slant, r0, modulus, modulus_at, cubic_discriminant, quotient_by_y, quotient_by, slope_at, term_at, height_above, gradients}
 
 -- the rational numbers
 abbrev q : Scalars Rational
@@ -114,11 +115,11 @@ pub data IsTriangleHigh (f : Polynomial 3 Rational) : Type 0 where
   at_corner_pair : (m : ℕ) → slant f ≡ Some m → r0 (plane_section f m) ≡ q.ops.zero
       → Among (IsWorkHigh 3 q) (pair_asking (quotient_by_y (plane_section f m))) → IsTriangleHigh f
   at_corner_roots : (m : ℕ) → slant f ≡ Some m → r0 (plane_section f m) ≡ q.ops.zero → QuadraticIsHigh (monic (quotient_by_y (plane_section f m))) → IsTriangleHigh f
-  at_rational_pair : (m : ℕ) (θ : Rational) → slant f ≡ Some m → r0 (plane_section f m) ≢ q.ops.zero → IsLeastRootOf (modulus (plane_section f m)) θ
+  at_rational_pair : (m : ℕ) (θ : Rational) → slant f ≡ Some m → r0 (plane_section f m) ≢ q.ops.zero → IsLeastRootOf (modulus_at (plane_section f m)) θ
       → Among (IsWorkHigh 3 q) (quotient_work (plane_section f m) θ ++ pair_asking (quotient_by (plane_section f m) θ)) → IsTriangleHigh f
-  at_rational_roots : (m : ℕ) (θ : Rational) → slant f ≡ Some m → r0 (plane_section f m) ≢ q.ops.zero → IsLeastRootOf (modulus (plane_section f m)) θ
+  at_rational_roots : (m : ℕ) (θ : Rational) → slant f ≡ Some m → r0 (plane_section f m) ≢ q.ops.zero → IsLeastRootOf (modulus_at (plane_section f m)) θ
       → QuadraticIsHigh (monic (quotient_by (plane_section f m) θ)) → IsTriangleHigh f
-  in_discriminant : (m : ℕ) → slant f ≡ Some m → r0 (plane_section f m) ≢ q.ops.zero → HasNoRoot (plane_section f m)
+  in_discriminant : (m : ℕ) → slant f ≡ Some m → r0 (plane_section f m) ≢ q.ops.zero → HasNoRoot (modulus_at (plane_section f m))
       → Among (IsWorkHigh 3 q) (discriminant_work (plane_section f m)) → IsTriangleHigh f
   in_gradients : (m : ℕ) (way : Points) → slant f ≡ Some m → IsWay (plane_section f m) way
       → (let a = algebra_of (plane_section f m) way in
