@@ -2,6 +2,7 @@
 #![tactic(auto)]
 
 mod completing;
+pub mod laws;
 mod splitting;
 
 pub use splitting::split;

@@ -1,0 +1,106 @@
+-- What the moves of an order keep of all that the plan has reached: the coefficients of the squares, the split form, the letters of the part, and that nothing residual
+-- stands below its degree. The square variables are those from c on, the residual ones the first c.
+use Rattle.std.specs.Prelude.{◌≡◌, ℕ, suc, ◌≤◌, true, length, List, Contains}
+use Rattle.std.specs.List.{AllByRecursion}
+use Rattle.ring_theory.specs.Scalars.{Scalars}
+use Rattle.poly_law.specs.Exps.{degree}
+use Rattle.poly_law.specs.ExpList.{ExpList, exps}
+use Rattle.poly_law.specs.Poly.{place}
+use Rattle.poly_law.specs.Polynomials.{Polynomial, SameToIn, StartsAtIn, HaveNoConstant, coefficient_in}
+use Rattle.jet_law.specs.Canonical.{jet, monomial_in}
+use Rattle.kill_law.specs.declared.lead.Lead.{Lead}
+use Rattle.kill_law.specs.declared.part.Part.{Part}
+use Rattle.kill_law.specs.Table.{row}
+use Rattle.kill_law.specs.Kill.{letters_of, divides}
+use Rattle.kill_law.specs.Leads.{HasInvertibleDivisors, form_of}
+use Rattle.kill_law.specs.Taken.{kill_move}
+use Rattle.coord_change.specs.Moves.{Move, put}
+use Rattle.coord_change.specs.Carries.{carry, carry_all}
+use Rattle.move_law.specs.Moves.{residual}
+use Rattle.move_law.specs.Split.{squares_in}
+use Rattle.split_lemma.specs.SplitForms.{IsSplitUpTo, split_off}
+
+module _ {V : Type 0} (n : ℕ) (s : Scalars V) (c : ℕ) where
+  -- the residual part of f up to degree k has no term of degree below that of the part
+  abbrev pub StartsAtPart : ℕ → Part → Polynomial n V → Type 0
+  StartsAtPart k p f = StartsAtIn c s.ops (row p).degree (residual n s c k f)
+
+  -- in the degree of the part, the residual terms of f are its form with the letters of f
+  abbrev pub HasForm : Part → Polynomial n V → Type 0
+  HasForm p f = (b : ExpList c) → degree (exps c) b ≡ (row p).degree
+      → coefficient_in n s.ops f (place (exps n) (exps c) s.ops b) ≡ coefficient_in c s.ops (form_of s (letters_of n s p f) c p) b
+
+  -- the split move of degree o + 1 keeps the letters, and that nothing residual stands below the degree of the part
+  pub record SplitKeepsPart (o : ℕ) (p : Part) (f : Polynomial n V) : Type 0 where
+    pub letters : letters_of n s p (split_off n s c (suc o) f) ≡ letters_of n s p f
+    pub low : StartsAtPart (suc o) p (split_off n s c (suc o) f)
+
+  -- f carried by its kill move of degree d of a part, up to degree d
+  abbrev pub kill_off : ℕ → Part → Polynomial n V → Polynomial n V
+  kill_off d p f = carry n s d (kill_move n s (letters_of n s p f) p d f) f
+
+  -- the kill move of degree o + 1 keeps all coefficients of degree at most o, the coefficients of the squares, the split form, the letters, and that nothing residual
+  -- stands below the degree of the part
+  pub record KillKeepsPart (o : ℕ) (p : Part) (f : Polynomial n V) : Type 0 where
+    pub below : SameToIn n s.ops o (kill_off (suc o) p f) f
+    pub squares : squares_in n s c (kill_off (suc o) p f) ≡ squares_in n s c f
+    pub split : IsSplitUpTo n s c (suc o) (kill_off (suc o) p f)
+    pub letters : letters_of n s p (kill_off (suc o) p f) ≡ letters_of n s p f
+    pub low : StartsAtPart (suc o) p (kill_off (suc o) p f)
+
+-- all weights of the part are 1: its form is homogeneous
+abbrev pub IsBasePart : Part → Type 0
+IsBasePart p = AllByRecursion (λ w. w ≡ 1) (row p).weights
+
+module _ {V : Type 0} (s : Scalars V) where
+  -- the letters of a part are those of every polynomial that agrees up to the degree of the part
+  abbrev pub LettersAgree : Type 0
+  LettersAgree = (n o : ℕ) (p : Part) → (row p).degree ≤ o → (f g : Polynomial n V) → SameToIn n s.ops o f g → letters_of n s p f ≡ letters_of n s p g
+
+  -- of polynomials that agree up to degree o, at least that of the part, either both have residual terms below the degree of the part or none
+  abbrev pub LowAgrees : Type 0
+  LowAgrees = (n c o k : ℕ) (p : Part) → c ≤ n → (row p).degree ≤ o → o ≤ k → (f g : Polynomial n V) → SameToIn n s.ops o f g → StartsAtPart n s c o p g → StartsAtPart n s c k p f
+
+  -- the squares of a carried jet are those of the jet of the next order
+  abbrev pub SquaresStay : Type 0
+  SquaresStay = (n c o : ℕ) → 2 ≤ o → (moves : List (Move n V)) → AllByRecursion (λ m. HaveNoConstant n s.ops n (put n s m)) moves → (g : Polynomial n V)
+      → squares_in n s c (carry_all n s (suc o) moves (jet n s (suc o) g)) ≡ squares_in n s c (carry_all n s o moves (jet n s o g))
+
+  -- and it is split up to degree o where that is
+  abbrev pub SplitStays : Type 0
+  SplitStays = (n c o : ℕ) (moves : List (Move n V)) → AllByRecursion (λ m. HaveNoConstant n s.ops n (put n s m)) moves → (g : Polynomial n V)
+      → IsSplitUpTo n s c o (carry_all n s o moves (jet n s o g)) → IsSplitUpTo n s c o (carry_all n s (suc o) moves (jet n s (suc o) g))
+
+  -- the letters of the part of a carried jet are those of the jet of the next order
+  abbrev pub LettersStay : Type 0
+  LettersStay = (n o : ℕ) (p : Part) → (row p).degree ≤ o → (moves : List (Move n V)) → AllByRecursion (λ m. HaveNoConstant n s.ops n (put n s m)) moves → (g : Polynomial n V)
+      → letters_of n s p (carry_all n s (suc o) moves (jet n s (suc o) g)) ≡ letters_of n s p (carry_all n s o moves (jet n s o g))
+
+  -- where nothing residual stands below the degree of the part in a carried jet, nothing does in the jet of the next order
+  abbrev pub LowStays : Type 0
+  LowStays = (n c o : ℕ) (p : Part) → c ≤ n → (row p).degree ≤ o → (moves : List (Move n V)) → AllByRecursion (λ m. HaveNoConstant n s.ops n (put n s m)) moves → (g : Polynomial n V)
+      → StartsAtPart n s c o p (carry_all n s o moves (jet n s o g)) → StartsAtPart n s c (suc o) p (carry_all n s (suc o) moves (jet n s (suc o) g))
+
+  -- carried jets of a germ without terms of degree below 2 have none
+  abbrev pub JetsLow : Type 0
+  JetsLow = (n k : ℕ) → 1 ≤ k → (moves : List (Move n V)) → AllByRecursion (λ m. HaveNoConstant n s.ops n (put n s m)) moves → (g : Polynomial n V) → StartsAtIn n s.ops 2 g
+      → StartsAtIn n s.ops 2 (carry_all n s k moves (jet n s k g))
+
+  -- what the split move of a degree above that of the part keeps, where f has no terms of degree below 2 and is split up to degree 2
+  abbrev pub AllSplitsKeep : Type 0
+  AllSplitsKeep = (n c o : ℕ) (p : Part) → c ≤ n → (row p).degree ≤ o → (f : Polynomial n V) → StartsAtIn n s.ops 2 f → IsSplitUpTo n s c 2 f → StartsAtPart n s c (suc o) p f
+      → SplitKeepsPart n s c o p f
+
+  -- what the kill move of a base part, of a degree above that of the part, keeps, where f is split up to that degree and nothing residual stands below the degree of the part
+  abbrev pub AllKillsKeep : Type 0
+  AllKillsKeep = (n c o : ℕ) (p : Part) → c ≤ n → length (row p).weights ≡ c → IsBasePart p → (row p).degree ≤ o → (f : Polynomial n V) → IsSplitUpTo n s c (suc o) f
+      → StartsAtPart n s c (suc o) p f → KillKeepsPart n s c o p f
+
+  -- and in its degree no monomial that a lead of the part divides is left, where the residual terms of the part's degree are its form, and what the leads are divided by
+  -- is invertible
+  abbrev pub KillsLeaveNoLead : Type 0
+  KillsLeaveNoLead = (n c o : ℕ) (p : Part) → c ≤ n → length (row p).weights ≡ c → IsBasePart p → (row p).degree ≤ o → (f : Polynomial n V) → IsSplitUpTo n s c (suc o) f
+      → StartsAtPart n s c (suc o) p f → HasForm n s c p f
+      → ((l : Lead) → Contains (row p).leads l → HasInvertibleDivisors s (letters_of n s p f) l)
+      → (l : Lead) → Contains (row p).leads l → (m : ExpList n) → degree (exps n) m ≡ suc o → divides n (monomial_in n l.monomial) m ≡ true
+      → coefficient_in n s.ops (kill_off n s c (suc o) p f) m ≡ s.ops.zero

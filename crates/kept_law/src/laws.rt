@@ -1,0 +1,54 @@
+//! Laws of carried jets, of the split move and of the base kill, each the contract of a function
+//! that does nothing.
+
+ghost use Rattle.kept_law.specs.KeptParts.{AllKillsKeep, AllSplitsKeep, JetsLow, KillsLeaveNoLead, LettersStay, LowStays, SplitStays, SquaresStay};
+
+use ring_law::Ring;
+
+/// The coefficients of the squares of a jet that moves carry up to degree o ≥ 2 are those of the
+/// jet that they carry up to degree o + 1.
+pub fn squares_stay<R: Ring>()
+    ensures { (a : R) → R.is_ring a → SquaresStay (R.meaning a).scalars }
+{}
+
+/// Where the jet of order o is split up to degree o, the jet of order o + 1 is.
+pub fn split_stays<R: Ring>()
+    ensures { (a : R) → R.is_ring a → SplitStays (R.meaning a).scalars }
+{}
+
+/// The letters of a part whose degree is at most o, as the jet of order o has them, are those of
+/// the jet of order o + 1.
+pub fn letters_stay<R: Ring>()
+    ensures { (a : R) → R.is_ring a → LettersStay (R.meaning a).scalars }
+{}
+
+/// Where nothing residual stands below the degree of a part in the jet of order o, nothing does in
+/// the jet of order o + 1.
+pub fn low_stays<R: Ring>()
+    ensures { (a : R) → R.is_ring a → LowStays (R.meaning a).scalars }
+{}
+
+/// Carried jets of a germ without terms of degree below 2 have none.
+pub fn jets_low<R: Ring>()
+    ensures { (a : R) → R.is_ring a → JetsLow (R.meaning a).scalars }
+{}
+
+/// The split move of a degree above that of the part keeps the letters, and that nothing residual
+/// stands below the degree of the part.
+pub fn splits_keep<R: Ring>()
+    ensures { (a : R) → R.is_ring a → AllSplitsKeep (R.meaning a).scalars }
+{}
+
+/// The kill move of a base part, of a degree above that of the part, keeps all coefficients below
+/// its degree, those of the squares, the split form, the letters, and that nothing residual stands
+/// below the degree of the part.
+pub fn kills_keep<R: Ring>()
+    ensures { (a : R) → R.is_ring a → AllKillsKeep (R.meaning a).scalars }
+{}
+
+/// After the kill move of a base part no monomial of its degree is left that a lead of the part
+/// divides, where the residual terms of the part's degree are its form, and what the leads are
+/// divided by is invertible.
+pub fn kills_leave_no_lead<R: Ring>()
+    ensures { (a : R) → R.is_ring a → KillsLeaveNoLead (R.meaning a).scalars }
+{}

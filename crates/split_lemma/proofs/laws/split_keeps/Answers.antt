@@ -1,0 +1,5 @@
+use Rattle.split_lemma.proofs.SplitLaws
+use Rattle.split_lemma.proofs.laws.split_keeps.Goals as goal
+
+pub returns : goal.returns
+returns g c a valid = SplitLaws.split_keeps (g.R.Ring.meaning a).scalars (g.met.R.Ring.laws a valid).numbers
