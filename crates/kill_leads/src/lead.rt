@@ -16,7 +16,7 @@ use ring_formula::{Summand, evaluate};
 use ring_law::{Field, Range, Ring};
 
 /// The monomial `x^p * y^q * z^r` with the exponents p, q and r.
-fn monomial(exponents: [u8; 3]) -> Exp
+pub fn monomial(exponents: [u8; 3]) -> Exp
     ensures { (i : ℕ) → get_or result.e i 0 ≡ get_or exponents i 0 }
 {
     let [p, q, r] = exponents;

@@ -5,5 +5,5 @@
 mod lead;
 mod table;
 
-pub use lead::{first_lead, multiplied};
-pub use table::{grading, leads};
+pub use lead::{first_lead, monomial, multiplied};
+pub use table::{form, grading, leads, variables};

@@ -1,7 +1,8 @@
 //! The table of the principal parts: the weights of their variables, and their leads.
 
-ghost use Rattle.std.specs.Prelude.{◌≡◌, ◌++◌, ◌-◌, length, replicate};
+ghost use Rattle.std.specs.Prelude.{◌≡◌, ◌++◌, ◌-◌, ℕ, length, map, get_or, replicate};
 ghost use Rattle.kill_law.specs.Table.{row};
+ghost use Rattle.kill_leads.specs.FirstLead.{as_three};
 
 use kill_law::{Lead, Part, table};
 
@@ -73,5 +74,66 @@ pub fn grading(part: Part) -> ([u8; 8], u8)
         Part::S11 => ([4, 5, 6, 0, 0, 0, 0, 0], 16),
         Part::S12 => ([3, 4, 5, 0, 0, 0, 0, 0], 13),
         Part::U12 => ([4, 4, 3, 0, 0, 0, 0, 0], 12),
+    }
+}
+
+/// The number of variables of a part.
+#[tactic(auto, unfolding(kill_law::specs::Table::row))]
+pub fn variables(part: Part) -> u8
+    ensures { result ≡ length (row part).weights }
+{
+    match part {
+        Part::P8
+        | Part::Q
+        | Part::S
+        | Part::U
+        | Part::T
+        | Part::Q10
+        | Part::Q11
+        | Part::Q12
+        | Part::S11
+        | Part::S12
+        | Part::U12 => 3,
+        _ => 2,
+    }
+}
+
+/// The monomials of the form of a part.
+#[tactic(auto, unfolding(kill_law::specs::Table::row))]
+pub fn form(part: Part) -> &'static [[u8; 3]]
+    ensures { result.now ≡ map as_three (row part).form }
+{
+    match part {
+        Part::X9 | Part::P8 => &[],
+        Part::D4 => &[[2, 1, 0], [0, 3, 0]],
+        Part::D => &[[2, 1, 0]],
+        Part::J => &[[3, 0, 0]],
+        Part::X => &[[4, 0, 0], [2, 2, 0]],
+        Part::Y => &[[2, 2, 0]],
+        Part::Z => &[[3, 1, 0]],
+        Part::W => &[[4, 0, 0]],
+        Part::Q => &[[3, 0, 0], [0, 1, 2]],
+        Part::S => &[[0, 2, 1], [1, 0, 2]],
+        Part::U => &[[3, 0, 0], [0, 3, 0]],
+        Part::T => &[[1, 1, 1], [3, 0, 0], [0, 3, 0]],
+        Part::E6 => &[[3, 0, 0], [0, 4, 0]],
+        Part::E7 => &[[3, 0, 0], [1, 3, 0]],
+        Part::E8 => &[[3, 0, 0], [0, 5, 0]],
+        Part::J10 => &[[3, 0, 0], [1, 4, 0], [0, 6, 0]],
+        Part::E12 => &[[3, 0, 0], [0, 7, 0]],
+        Part::E13 => &[[3, 0, 0], [1, 5, 0]],
+        Part::E14 => &[[3, 0, 0], [0, 8, 0]],
+        Part::Z11 => &[[3, 1, 0], [0, 5, 0]],
+        Part::Z12 => &[[3, 1, 0], [1, 4, 0]],
+        Part::Z13 => &[[3, 1, 0], [0, 6, 0]],
+        Part::W12 => &[[4, 0, 0], [0, 5, 0]],
+        Part::W13 => &[[4, 0, 0], [1, 4, 0]],
+        Part::Q10 => &[[3, 0, 0], [0, 1, 2], [0, 4, 0]],
+        Part::Q11 => &[[3, 0, 0], [0, 1, 2], [1, 3, 0]],
+        Part::Q12 => &[[3, 0, 0], [0, 1, 2], [0, 5, 0]],
+        Part::S11 => &[[0, 2, 1], [1, 0, 2], [4, 0, 0]],
+        Part::S12 => &[[0, 2, 1], [1, 0, 2], [3, 1, 0]],
+        Part::U12 => &[[3, 0, 0], [0, 3, 0], [0, 0, 4]],
+        Part::JT => &[[3, 0, 0], [2, 2, 0]],
     }
 }
