@@ -1,7 +1,7 @@
 -- The answer of Mather's test from what solves or excludes each monomial.
 use Rattle.std.proofs.Common.{◌≡◌, ℕ, zero, suc, ◌+◌, ◌<◌, ◌≤◌, inl, inr, List, [], ◌∷◌, length, get_or, map, sum, refl, sym, ap, ap₂, subst, ◌∙◌, arith, Result, Ok, Err, IfOk}
 use Rattle.std.specs.List.{All}
-use Rattle.std.proofs.lemmas.List.Elements.{recursion_from_All}
+use Rattle.std.proofs.lemmas.List.Elements.{recursion_from_All, All-from_recursion}
 use Rattle.ring_theory.specs.Ring.{RingOps, IsCommRing}
 use Rattle.ring_theory.specs.Scalars.{Meaning}
 use Rattle.poly_law.specs.Sums.{unit_at}
@@ -216,6 +216,7 @@ module _ {E V : Type 0} (m : Meaning E V) (c : IsCommRing m.scalars.ops) (set : 
       monomial = record { unused = unused_at; long = by.failure.1 };
       values = FailureLemmas.functional_jet m c set n (k + 1) functional by.failure.2.unused below excluded.line.units;
       rising = FailureLemmas.functional_rises m c set n functional by.failure.2.unused by.failure.2.long excluded.line.rising;
+      long = All-from_recursion (λ t. length t.0.e ≡ 8) functional by.failure.2.long;
       fails = record {
         of_degree = degree-exp_of n at unused_at ∙ degree_at;
         zero_on = zero_on;

@@ -46,11 +46,12 @@ pub record AreRows {E V : Type 0} (m : Meaning E V) (g : JetTerms E) (k : ℕ) (
   pub each : AllByRecursion (IsRow m g k) rows
 
 -- the functional excludes the condition at k for g at the monomial `at`: it is 0 on the multiples x^a * ∂g/∂x(i) of degree of a at least 2, cut at
--- k + 1, and 1 on `at`, of degree k + 1; its monomials have degree at most k + 1 and rise, and its values are valid and not zero
+-- k + 1, and 1 on `at`, of degree k + 1; its monomials have eight exponents each and degree at most k + 1, and rise, and its values are valid and not zero
 pub record IsFailure {E V : Type 0} (m : Meaning E V) (g : JetTerms E) (k : ℕ) (functional : List (Exp × E)) (at : Exp) : Type 0 where
   pub monomial : IsMonomialIn g.n at
   pub values : IsJet m (record { n = g.n; order = k + 1; terms = functional })
   pub rising : IsRising functional
+  pub long : All (λ t. length t.0.e ≡ 8) functional
   pub fails : MatherFails (exps g.n) m.scalars.ops k (polynomial_of m g) (poly_of g.n m.value functional) (exp_of g.n at)
 
 -- the answer of the test: rows, or a functional that excludes them

@@ -1,0 +1,4 @@
+pub mod Answered
+pub mod Readings
+pub mod Inverses
+pub mod UnitsRead

@@ -1,0 +1,8 @@
+//! What the certificate of a carried germ needs, as a report holds it: Mather's test of its residual part, and the truncated Milnor algebra.
+#![tactic(auto)]
+
+mod evidence;
+mod unit;
+
+pub use evidence::{milnor_algebra, test};
+pub use unit::units;
