@@ -164,7 +164,7 @@ few_from {E} n low (t ∷ ts) h rising inside small later =
     let place_is = place_low n t.0 it (All-head (λ (t : Exp × E). sum t.0.e ≤ 17) t ts small) in
     let here : low ≤ place (exponents n t.0.e) = All-head (λ (t : Exp × E). low ≤ place (exponents n t.0.e)) t ts later in
     let rest = few_from n (suc (place (exponents n t.0.e))) ts place_is rising.1 (All-tail (λ (t : Exp × E). IsIn n t.0.e) t ts inside) (All-tail (λ (t : Exp × E). sum t.0.e ≤ 17) t ts small)
-        (later_places n t.0 ts it (All-tail (λ (t : Exp × E). IsIn n t.0.e) t ts inside) rising.0) in
+    (later_places n t.0 ts it (All-tail (λ (t : Exp × E). IsIn n t.0.e) t ts inside) rising.0) in
     omega arith
 
 -- the element 0 stands for 0
@@ -243,6 +243,7 @@ module _ (base : Carried) where
         and_both (texts.is_monomial_in n t.0 && nat_le (sum t.0.e) o) (is_element A t.1 && not (is_zero_element t.1))
         (and_both (texts.is_monomial_in n t.0) (nat_le (sum t.0.e) o) (monomial_valid n t.0 h) (le-leb (sum t.0.e) o low))
         (and_both (is_element A t.1) (not (is_zero_element t.1)) ((is_element-IsElement A t.1).1 valid) (apart t.1 valid unit))
+
     -- so do all terms
     terms_valid : (ts : List (Exp × Ext Frac)) → All (λ t. IsIn n t.0.e) ts → All (λ t. length t.0.e ≡ 8) ts → All (λ t. sum t.0.e ≤ o) ts → All (λ t. IsElement A t.1) ts
         → All (λ t. value_in A t.1 ≢ (ops A).zero) ts → list_all (is_term_of n o A) ts ≡ true

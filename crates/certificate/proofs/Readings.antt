@@ -9,7 +9,6 @@ use Rattle.std.specs.Str.{bytes_eq}
 use Rattle.std.proofs.lemmas.List.{ext_get_or, length-map, get_or-map, length-append}
 use Rattle.std.proofs.lemmas.List.Folds.{list_any-append, list_all-append}
 use Rattle.std.proofs.lemmas.List.Elements.{recursion_from_All, All-tail}
-
 use Rattle.std.proofs.lemmas.Slice.Eq.{bytes_eq-Decides}
 use Rattle.std.proofs.lemmas.Bool.{leb-true}
 use Rattle.report_law.proofs.Splitting.{and_both}
@@ -191,12 +190,12 @@ listed_as_one : (n : ℕ) (m u : Exp) (es : List ℕ) → n ≤ 8 → IsIn n m.e
     → bytes_eq (monomial_in n m.e).entries es ≡ bytes_eq m.e u.e
 listed_as_one n m u es few im iu lm lu long at_es = same_bool (bytes_eq (monomial_in n m.e).entries es) (bytes_eq m.e u.e)
     (λ t.
-      let e : (monomial_in n m.e).entries ≡ es = (bytes_eq-Decides (monomial_in n m.e).entries es).0 t in
-      (bytes_eq-Decides m.e u.e).1 (same_up_to n m.e u.e (lm ∙ sym lu) im iu (λ i h. sym ((exps_are n).at_make (λ k. get_or m.e k 0) i h) ∙ ap (λ xs. get_or xs i 0) e ∙ at_es i h)))
+    let e : (monomial_in n m.e).entries ≡ es = (bytes_eq-Decides (monomial_in n m.e).entries es).0 t in
+    (bytes_eq-Decides m.e u.e).1 (same_up_to n m.e u.e (lm ∙ sym lu) im iu (λ i h. sym ((exps_are n).at_make (λ k. get_or m.e k 0) i h) ∙ ap (λ xs. get_or xs i 0) e ∙ at_es i h)))
     (λ t.
-      let e : m.e ≡ u.e = (bytes_eq-Decides m.e u.e).0 t in
-      (bytes_eq-Decides (monomial_in n m.e).entries es).1 (ext_get_or 0 (monomial_in n m.e).entries es ((monomial_in n m.e).long ∙ sym long)
-      (λ i h. (let g : i < n = let l = (monomial_in n m.e).long in omega arith in (exps_are n).at_make (λ k. get_or m.e k 0) i g ∙ ap (λ xs. get_or xs i 0) e ∙ sym (at_es i g)))))
+    let e : m.e ≡ u.e = (bytes_eq-Decides m.e u.e).0 t in
+    (bytes_eq-Decides (monomial_in n m.e).entries es).1 (ext_get_or 0 (monomial_in n m.e).entries es ((monomial_in n m.e).long ∙ sym long)
+    (λ i h. (let g : i < n = let l = (monomial_in n m.e).long in omega arith in (exps_are n).at_make (λ k. get_or m.e k 0) i g ∙ ap (λ xs. get_or xs i 0) e ∙ sym (at_es i g)))))
 
 module _ (n c : ℕ) (few : n ≤ 8) (within : c ≤ n) (m : Exp) (long : length m.e ≡ 8) (inside : IsIn n m.e) where
   -- a monomial with these exponents
@@ -358,7 +357,7 @@ module _ (a : Algebra) (n c : ℕ) (few : n ≤ 8) (within : c ≤ n) where
       let one = and_left (is_monomial_in n t.0) (list_all (λ t. is_monomial_in n t.0) ts) h in
       let apart : bytes_eq u.e t.0.e ≡ false = or_none_left (bytes_eq u.e t.0.e) (is_one_of (monomials_in ts) u) none in
       let differs : exp_of n t.0 ≡ exp_of n u → ⊥ = λ q. true≢false (sym ((bytes_eq-Decides u.e t.0.e).1 (same_up_to n u.e t.0.e (lu ∙ sym (long_in n t.0 one)) iu (monomial_inside n t.0 one)
-          (λ i g. sym (at-exp_of n u i g) ∙ ap (λ z. (exps n).at z i) (sym q) ∙ at-exp_of n t.0 i g))) ∙ apart) in
+      (λ i g. sym (at-exp_of n u i g) ∙ ap (λ z. (exps n).at z i) (sym q) ∙ at-exp_of n t.0 i g))) ∙ apart) in
       ap (λ b. (ops a).add (cond b (value_in a t.1) (ops a).zero) (coefficient_in n (ops a) (poly_of n (value_in a) ts) (exp_of n u))) (ExpLaws.same-no (exps n) (exps_are n) (exp_of n t.0) (exp_of n u) differs)
       ∙ Sums.zero_add (ops a) (algebra_scalar_laws a).ring (coefficient_in n (ops a) (poly_of n (value_in a) ts) (exp_of n u))
       ∙ none_there u lu iu ts (and_right (is_monomial_in n t.0) (list_all (λ t. is_monomial_in n t.0) ts) h) (or_none_right (bytes_eq u.e t.0.e) (is_one_of (monomials_in ts) u) none)

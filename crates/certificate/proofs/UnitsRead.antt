@@ -134,10 +134,11 @@ module _ (family : Family) (c : Carried) (w : IsWellFormedCarried c) (known : is
       inverse_pairs [] vs u e = tt
       inverse_pairs (p ∷ ps) [] u e = absurd (let l = ap (λ (l : List (Value c.algebra × Value c.algebra)). length l) e in omega arith)
       inverse_pairs (p ∷ ps) (v ∷ vs) u e =
-          let d : Value c.algebra × Value c.algebra = (value_in c.algebra v, s.inverse (value_in c.algebra v)) in
-          (inverse_pair p v (and_left (not (s.is_zero (value_in c.algebra v))) (list_all (λ v. not (s.is_zero v)) (map (value_in c.algebra) vs)) u)
-          (ap (λ (l : List (Value c.algebra × Value c.algebra)). (get_or l 0 d).0) e) (ap (λ (l : List (Value c.algebra × Value c.algebra)). (get_or l 0 d).1) e),
-          inverse_pairs ps vs (and_right (not (s.is_zero (value_in c.algebra v))) (list_all (λ v. not (s.is_zero v)) (map (value_in c.algebra) vs)) u) (ap (λ (l : List (Value c.algebra × Value c.algebra)). drop 1 l) e))
+          let d : Value c.algebra × Value c.algebra = (value_in c.algebra v, s.inverse (value_in c.algebra v)) in (
+            inverse_pair p v (and_left (not (s.is_zero (value_in c.algebra v))) (list_all (λ v. not (s.is_zero v)) (map (value_in c.algebra) vs)) u)
+                (ap (λ (l : List (Value c.algebra × Value c.algebra)). (get_or l 0 d).0) e) (ap (λ (l : List (Value c.algebra × Value c.algebra)). (get_or l 0 d).1) e),
+            inverse_pairs ps vs (and_right (not (s.is_zero (value_in c.algebra v))) (list_all (λ v. not (s.is_zero v)) (map (value_in c.algebra) vs)) u) (ap (λ (l : List (Value c.algebra × Value c.algebra)). drop 1 l) e),
+          )
 
       few_pairs : length pairs ≤ list_limit
       few_pairs =
