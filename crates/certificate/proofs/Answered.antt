@@ -1,8 +1,8 @@
 -- The answers of Mather's test and of the quotient over an algebra, at the order k of a jet g in at most three variables, as the rows, the functional, the basis
 -- and the table of a carried germ whose residual part is g.
 use mathlib.Core.Path.{fun_ext}
-use Rattle.std.proofs.Common.{◌≡◌, ◌≢◌, ℕ, zero, suc, ◌+◌, ◌<◌, ◌≤◌, ◌⊎◌, inl, inr, Bool, true, false, not, cond, ◌&&◌, pos, List, [], ◌∷◌, ◌++◌, map, flat_map, length, get_or, sum, drop, Option, Some, None, refl, sym, ap, ap₂, subst, ◌∙◌, arith, le-leb, eq-eqb}
-use Rattle.std.specs.Prelude.{nat_le, find, unwrap_or, ◌==◌}
+use Rattle.std.proofs.Common.{◌≡◌, ◌≢◌, ℕ, zero, suc, ◌+◌, ◌<◌, ◌≤◌, ◌⊎◌, inl, inr, Bool, true, false, not, cond, ◌&&◌, pos, List, [], ◌∷◌, ◌++◌, map, flat_map, length, get_or, sum, drop, refl, sym, ap, ap₂, subst, ◌∙◌, arith, le-leb, eq-eqb}
+use Rattle.std.specs.Prelude.{nat_le, ◌==◌}
 use Rattle.std.specs.List.{All, AllByRecursion, filter, list_all}
 use Rattle.std.proofs.lemmas.List.{length-map, length-append}
 use Rattle.std.proofs.lemmas.List.Concat.{flat_map-append}
@@ -24,7 +24,7 @@ use Rattle.std.proofs.lemmas.Bool.Decides.{Decides-int_eq}
 use Rattle.ext_theory.specs.Tower.{nest}
 use Rattle.ext_theory.specs.ExtensionScalars.{quadratic_scalars, cubic_scalars}
 use Rattle.poly_law.specs.Sums.{sum_to}
-use Rattle.poly_law.specs.Exps.{degree, none, same}
+use Rattle.poly_law.specs.Exps.{degree, none}
 use Rattle.poly_law.specs.ExpList.{ExpList, exps}
 use Rattle.poly_law.specs.ExpList as lists
 use Rattle.poly_law.specs.Poly.{coefficient, times, derivative, term, of_basis, poly_ops, StartsAt, IsMatherRow, MatherFails, IsQuotientTable}
@@ -53,18 +53,18 @@ use Rattle.determinacy.specs.Tests as tests
 use Rattle.determinacy.specs.Tests.{IsMonomialIn}
 use Rattle.milnor_alg.specs.declared.quotient.JetQuotient.{JetQuotient}
 use Rattle.milnor_alg.specs.declared.quotient.TableRow.{TableRow}
+use Rattle.milnor_alg.specs.Rows.{row_of}
 use Rattle.jet_quotient.specs.Quotients as quotients
 use Rattle.jet_quotient.proofs.AnswerFacts.{degrees_low}
 use Rattle.normal_forms.specs.Monomials.{in_eight, monomials_in}
-use Rattle.normal_forms.specs.Monomials as reported
 use Rattle.normal_forms.proofs.Padded.{in_eight-in}
 use Rattle.cert_text.specs.declared.report.Carried.{Carried}
 use Rattle.cert_text.specs.declared.report.Named as named_type
 use Rattle.cert_text.specs.WellFormed as texts
 use Rattle.cert_text.specs.WellFormed.{is_zero_element, is_term_of, is_monomial_in, is_low_monomial, is_residual_monomial, is_functional_value, list_limit}
 use Rattle.report_law.specs.Polynomials.{terms_in, jet_at, value_at, zero_element, residual_part}
-use Rattle.report_law.specs.Items.{residual_of, row_of, basis_of, values_of_row, multipliers_of_row, IsRowOf, AreMatherRows, IsMilnorTable}
-use Rattle.report_law.proofs.Listing.{same_monomials, same_monomials_to, listed_as}
+use Rattle.report_law.specs.Items.{residual_of, basis_of, values_of_row, multipliers_of_row, IsRowOf, AreMatherRows, IsMilnorTable}
+use Rattle.report_law.proofs.Listing.{listed_as}
 use Rattle.line_syntax.proofs.Bools.{and_left, and_right}
 use Rattle.report_law.proofs.Splitting.{and_both, all_zero_past}
 use Rattle.report_jet.proofs.ReportJets.{algebra_valid}
@@ -83,11 +83,6 @@ image_at : {X Y : Type 0} (f : X → Y) (xs : List X) (i : ℕ) (d : X) (z : Y) 
 image_at f [] i d z h = h
 image_at f (x ∷ xs) zero d z h = refl
 image_at f (x ∷ xs) (suc i) d z h = image_at f xs i d z h
-
--- what is found has the same value by two defaults of the same value
-found_or : {X Y : Type 0} (f : X → Y) (o : Option X) (d e : X) → f d ≡ f e → f (unwrap_or o d) ≡ f (unwrap_or o e)
-found_or f None d e h = h
-found_or f (Some x) d e h = refl
 
 -- what holds of each element gives what holds of each image
 each_image : {X Y : Type 0} (P : X → Type 0) (Q : Y → Type 0) (f : X → Y) → ((x : X) → P x → Q (f x)) → (xs : List X) → AllByRecursion P xs → AllByRecursion Q (map f xs)
@@ -279,10 +274,9 @@ module _ (base : Carried) where
           let c = few_of_degree g.n (k + 1) few (omega arith) in
           omega arith
 
-      monomials_are : map (λ row. row.monomial) rows ≡ map in_eight (reported.monomials_of g.n (k + 1))
+      monomials_are : map (λ row. row.monomial) rows ≡ map in_eight (monomials_of g.n (k + 1))
       monomials_are =
           listed_as g.n (map (λ row. row.monomial) rows) (monomials_of g.n (k + 1)) (each_image (tests.IsRow meaning g k) (IsMonomialIn g.n) (λ row. row.monomial) (λ row h. h.monomial) rows are.each) (list rows ∙ are.monomials)
-          ∙ ap (map in_eight) (sym (same_monomials g.n (k + 1)))
         where
           list : (rs : List (MatherRow (Ext Frac))) → map (λ a. exponents g.n a.e) (map (λ row. row.monomial) rs) ≡ map (λ row. exponents g.n row.monomial.e) rs
           list [] = refl
@@ -479,19 +473,14 @@ module _ (base : Carried) where
           values_same : quotients.values_at meaning g.n q.table ≡ values_of_row R
           unfolding value_at value_in scalars
           values_same = fun_ext λ m. fun_ext λ j.
-              found_or (λ (row : TableRow (Ext Frac)). get_or (map (value_in A) row.values) j (ops A).zero) (find (λ row. same (exps g.n) (exp_of g.n row.monomial) m) q.table)
-              (record { monomial = record { e = [] }; values = []; multipliers = [] }) (record { monomial = in_eight []; values = []; multipliers = [] }) refl
-              ∙ sym (image_at (value_in A) (row_of g.n q.table m).values j zero_element (ops A).zero (zero_is A))
+              sym (image_at (value_in A) (row_of g.n q.table m).values j zero_element (ops A).zero (zero_is A))
 
           multipliers_same : quotients.multipliers_at meaning g.n q.table ≡ multipliers_of_row R
-          multipliers_same = fun_ext λ m.
-              found_or (λ (row : TableRow (Ext Frac)). polynomial_at g.n (value_in A) row.multipliers) (find (λ row. same (exps g.n) (exp_of g.n row.monomial) m) q.table)
-              (record { monomial = record { e = [] }; values = []; multipliers = [] }) (record { monomial = in_eight []; values = []; multipliers = [] }) refl
-              ∙ jets_same g.n (row_of g.n q.table m).multipliers
+          multipliers_same = fun_ext λ m. jets_same g.n (row_of g.n q.table m).multipliers
 
           pub table_is : IsMilnorTable R
           table_is = record {
-            monomials = listed_as g.n (map (λ row. row.monomial) q.table) (monomials_below g.n (k + 1)) (all_in low q is) (list low q is q.table ∙ is.monomials) ∙ ap (map in_eight) (sym (same_monomials_to g.n k ∙ ap (monomials_below g.n) (let e : suc k ≡ k + 1 = omega arith in e)));
+            monomials = listed_as g.n (map (λ row. row.monomial) q.table) (monomials_below g.n (k + 1)) (all_in low q is) (list low q is q.table ∙ is.monomials);
             quotient =
                 subst (λ f. IsQuotientTable (exps g.n) (ops A) k f (length q.basis) (basis_of R) (values_of_row R) (multipliers_of_row R)) (sym residual)
                 (subst (λ b. IsQuotientTable (exps g.n) (ops A) k (polynomial_of meaning g) (length q.basis) b (values_of_row R) (multipliers_of_row R)) basis_same
