@@ -9,3 +9,6 @@ pub mod LinearForms
 pub mod InverseLemmas
 pub mod InverseSteps
 pub mod Negatives
+pub mod Canonicals
+pub mod CompositeLemmas
+pub mod ChainLemmas

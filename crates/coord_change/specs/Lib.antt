@@ -7,3 +7,5 @@ pub mod InverseChanges
 pub mod Moves
 pub mod Carries
 pub mod CarryHeights
+pub mod MoveJets
+pub mod Chains

@@ -5,6 +5,8 @@ ghost use Rattle.poly_law.specs.Polynomials.{SameIn, cut_in, substitute};
 ghost use Rattle.ring_law.specs.Refusals.{OnFault};
 ghost use Rattle.jet_subst.specs.Parts.{part_of};
 ghost use Rattle.coord_change.specs.Changes.{IsChange, IsCompositionHigh};
+ghost use Rattle.coord_change.specs.Moves.{move_from};
+ghost use Rattle.coord_change.specs.Carries.{compose};
 
 use crate::change::{Change, ChangeOf};
 use crate::matrix::matrix_product;
@@ -36,11 +38,13 @@ pub fn then<R: Ring>(
     ensures order { IfOk result (λ c. c.order ≡ k) }
     ensures parts { IfOk result (λ c. let m = R.meaning ring.now in let n = first.now.n in (i : ℕ) → i < n → SameIn n m.scalars.ops (part_of n m.value c.parts i)
         (cut_in n m.scalars.ops k (substitute n n m.scalars.ops (part_of n m.value next.now.parts) (part_of n m.value first.now.parts i)))) }
+    ensures moves { IfOk result (λ c. let m = R.meaning ring.now in let n = first.now.n in move_from m n c ≡ compose n m.scalars k (move_from m n first.now) (move_from m n next.now)) }
     ensures range { OnFault result (IsCompositionHigh (R.meaning ring.now) k first.now next.now) }
 {
     let mut parts = Vec::new(alloc);
     for part in first.parts.as_slice() {
         let carried = carry(alloc, ring, next, part, k)?;
+        let _terms = carried.terms();
         parts.push(carried)?;
     }
     let inverse = matrix_product(

@@ -46,7 +46,7 @@ pub fn linear_part<R: Ring>(
 }
 
 /// A copy of a jet.
-fn copy<E: Copy>(alloc: Global, f: &Jet<E>) -> Result<Jet<E>, AllocError>
+pub(crate) fn copy<E: Copy>(alloc: Global, f: &Jet<E>) -> Result<Jet<E>, AllocError>
     ensures { IfOk result (λ h. h ≡ f.now) }
 {
     let mut terms = Vec::new(alloc);
@@ -66,6 +66,20 @@ fn copies<E: Copy>(alloc: Global, parts: &[Jet<E>]) -> Result<Vec<Jet<E>>, Alloc
         all.push(other)?;
     }
     Ok(all)
+}
+
+/// A copy of a change.
+pub(crate) fn copied<E: Copy>(alloc: Global, c: &Change<E>) -> Result<Change<E>, AllocError>
+    ensures { IfOk result (λ d. d ≡ c.now) }
+{
+    let parts = copies(alloc, c.parts.as_slice())?;
+    let inverse = Items::from_slice(alloc, c.inverse.as_slice())?;
+    Ok(Change {
+        n: c.n,
+        order: c.order,
+        parts: Items::from_vec(parts),
+        inverse,
+    })
 }
 
 /// The change of coordinates with these parts: as many jets as they have variables, of one order

@@ -1,17 +1,23 @@
 //! The transformed jet.
 
-ghost use Rattle.std.specs.Prelude.{◌≡◌, ◌≤◌, IfOk};
+ghost use Rattle.std.specs.Prelude.{◌≡◌, ◌≤◌, IfOk, All, map};
 ghost use Rattle.poly_law.specs.ExpList.{exps};
 ghost use Rattle.poly_law.specs.Polynomials.{SameIn, cut_in, substitute};
 ghost use Rattle.ring_law.specs.Refusals.{OnFault};
 ghost use Rattle.jet_law.specs.Terms.{poly_of};
+ghost use Rattle.jet_law.specs.Canonical.{jet};
 ghost use Rattle.jet_poly.specs.Jets.{IsJet};
 ghost use Rattle.jet_subst.specs.Parts.{part_of};
 ghost use Rattle.jet_subst.specs.Substitutions.{IsSubstHigh};
 ghost use Rattle.coord_change.specs.Changes.{IsChange};
+ghost use Rattle.coord_change.specs.Moves.{move_from};
+ghost use Rattle.coord_change.specs.Carries.{carry as carry_of};
+ghost use Rattle.coord_change.specs.CarryHeights.{IsCarryHigh, IsCarryAllHigh};
+ghost use Rattle.coord_change.specs.MoveJets.{IsJetFor};
+ghost use Rattle.coord_change.specs.Chains.{AreCarried};
 
 use crate::change::ChangeOf;
-use jet_poly::JetOf;
+use jet_poly::{JetOf, cut};
 use jet_subst::subst;
 use ring_law::{Fault, Ring};
 use std::alloc::Global;
@@ -40,4 +46,77 @@ pub fn carry<R: Ring>(
         IsSubstHigh (exps n) (exps n) m.scalars k (part_of n m.value c.now.parts) (poly_of n m.value f.now.terms)) }
 {
     subst(alloc, ring, f, c.parts.as_slice(), k)
+}
+
+/// f carried by the move of the change c up to degree k, as the one list of terms that it is.
+///
+/// Errors: `Range` only where a number that this substitution forms has height 2^120 or more.
+pub(crate) fn carried_jet<R: Ring>(
+    alloc: Global,
+    ring: &R,
+    c: &ChangeOf<R>,
+    f: &JetOf<R>,
+    k: u8,
+) -> Result<JetOf<R>, Fault>
+    requires ring { R.is_ring ring.now }
+    requires change { IsChange (R.meaning ring.now) c.now }
+    requires jet { IsJet (R.meaning ring.now) f.now }
+    requires same_variables { f.now.n ≡ c.now.n }
+    requires order_at_most_17 { k ≤ 17 }
+    ensures jet { IfOk result (let m = R.meaning ring.now in let n = c.now.n in
+        IsJetFor m n k (carry_of n m.scalars k (move_from m n c.now) (poly_of n m.value f.now.terms))) }
+    ensures range { OnFault result (let m = R.meaning ring.now in let n = c.now.n in
+        IsCarryHigh n m.scalars k (move_from m n c.now) (poly_of n m.value f.now.terms)) }
+{
+    let jet = carry(alloc, ring, c, f, k)?;
+    let _terms = jet.terms();
+    Ok(jet)
+}
+
+/// f cut at degree k, as the one list of terms that it is.
+pub(crate) fn truncated<R: Ring>(
+    alloc: Global,
+    ring: &R,
+    f: &JetOf<R>,
+    k: u8,
+) -> Result<JetOf<R>, Fault>
+    requires ring { R.is_ring ring.now }
+    requires jet { IsJet (R.meaning ring.now) f.now }
+    ensures jet { IfOk result (let m = R.meaning ring.now in let n = f.now.n in IsJetFor m n k (jet n m.scalars k (poly_of n m.value f.now.terms))) }
+    ensures range { OnFault result ⊥ }
+{
+    let jet = cut(alloc, ring, f, k)?;
+    let _terms = jet.terms();
+    Ok(jet)
+}
+
+/// The jets that the first moves make of f, one after the other, each step cut at degree k.
+///
+/// Errors: `Range` only where a number that one of these substitutions forms has height 2^120 or
+/// more.
+pub(crate) fn carried_jets<R: Ring>(
+    alloc: Global,
+    ring: &R,
+    f: &JetOf<R>,
+    moves: &[ChangeOf<R>],
+    k: u8,
+) -> Result<Vec<JetOf<R>>, Fault>
+    requires ring { R.is_ring ring.now }
+    requires jet { IsJet (R.meaning ring.now) f.now }
+    requires changes { All (IsChange (R.meaning ring.now)) moves.now }
+    requires variables { All (λ c. c.n ≡ f.now.n) moves.now }
+    requires order_at_most_17 { k ≤ 17 }
+    ensures jets { IfOk result (λ v. let m = R.meaning ring.now in let n = f.now.n in
+        AreCarried m n k (map (move_from m n) moves.now) (jet n m.scalars k (poly_of n m.value f.now.terms)) v.items) }
+    ensures range { OnFault result (let m = R.meaning ring.now in let n = f.now.n in
+        IsCarryAllHigh n m.scalars k (map (move_from m n) moves.now) (jet n m.scalars k (poly_of n m.value f.now.terms))) }
+{
+    let first = truncated(alloc, ring, f, k)?;
+    let mut jets = Vec::new(alloc);
+    jets.push(first)?;
+    for i in 0..moves.len() {
+        let next = carried_jet(alloc, ring, &moves[i], &jets[i], k)?;
+        jets.push(next)?;
+    }
+    Ok(jets)
 }

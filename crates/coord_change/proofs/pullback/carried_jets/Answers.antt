@@ -1,0 +1,84 @@
+use Rattle.std.proofs.Common.{◌≡◌, ◌+◌, ◌≤◌, List, [], ◌∷◌, ◌++◌, map, take, take_all, length, sym, ◌∙◌, ap, subst, refl, arith}
+use Rattle.ring_law.proofs.Exits.{fault_handed_on}
+use Rattle.jet_law.specs.Terms.{poly_of}
+use Rattle.jet_law.specs.Canonical.{jet}
+use Rattle.jet_poly.specs.JetTerms.{JetTerms}
+use Rattle.jet_poly.specs.Jets.{IsJet}
+use Rattle.jet_subst.specs.Parts.{jet_at}
+use Rattle.jet_subst.proofs.PowerLemmas.{at_index}
+use Rattle.jet_subst.proofs.Tables.{length-mapped}
+use Rattle.coord_change.specs.declared.change.Change.{Change}
+use Rattle.coord_change.specs.Changes.{IsChange}
+use Rattle.coord_change.specs.Moves.{move_from}
+use Rattle.coord_change.specs.Chains.{AreCarried}
+use Rattle.coord_change.proofs.ChainLemmas
+use Rattle.coord_change.proofs.pullback.carried_jets.Goals as goal
+
+pub loop-i-init : goal.loop-i-init
+loop-i-init g c =
+    let m = g.R.Ring.meaning c.args.ring.now in
+    let n = c.args.f.now.n in
+    let f = jet n m.scalars c.args.k (poly_of n m.value c.args.f.now.terms) in
+    let items : c.push.new.self.items ≡ c.in_ok-first.first ∷ [] = c.in_ok-push.ensures.items ∙ ap (λ zs. zs ++ c.in_ok-first.first ∷ []) c.new-jets.ensures.items in
+    record {
+      within = omega arith;
+      carried = subst (AreCarried m n c.args.k [] f) (sym items) (ChainLemmas.carried_first m n c.args.k f c.in_ok-first.first c.in_ok-first.ensures.jet);
+    }
+
+pub carried_jet-requires-clause-change : goal.carried_jet-requires-clause-change
+carried_jet-requires-clause-change g c =
+    let m = g.R.Ring.meaning c.args.ring.now in
+    subst (IsChange m) (sym c.index-moves-i.is) (c.requires.changes c.loop-i.i c.index-moves-i.result c.loop-i-test.true)
+
+pub carried_jet-requires-clause-jet : goal.carried_jet-requires-clause-jet
+carried_jet-requires-clause-jet g c =
+    let m = g.R.Ring.meaning c.args.ring.now in
+    let n = c.args.f.now.n in
+    let f = jet n m.scalars c.args.k (poly_of n m.value c.args.f.now.terms) in
+    let b = ChainLemmas.before_is m n c.args.k c.loop-i.i c.args.moves.now f c.loop-i.jets.items c.loop-i.invariant.within c.loop-i.invariant.carried in
+    let here : c.index.result.now ≡ jet_at c.loop-i.jets.items c.loop-i.i = at_index c.loop-i.jets.items c.loop-i.i c.loop-i.i c.index.result.now c.index.ensures refl (ChainLemmas.place_inside m n c.args.k c.loop-i.i c.args.moves.now f c.loop-i.jets.items c.loop-i.invariant.within c.loop-i.invariant.carried) in
+    subst (λ (u : JetTerms g.row.R-Elem.Denot). IsJet m u) (sym here) b.jet
+
+pub carried_jet-requires-clause-same_variables : goal.carried_jet-requires-clause-same_variables
+carried_jet-requires-clause-same_variables g c =
+    let m = g.R.Ring.meaning c.args.ring.now in
+    let n = c.args.f.now.n in
+    let f = jet n m.scalars c.args.k (poly_of n m.value c.args.f.now.terms) in
+    let b = ChainLemmas.before_is m n c.args.k c.loop-i.i c.args.moves.now f c.loop-i.jets.items c.loop-i.invariant.within c.loop-i.invariant.carried in
+    let here : c.index.result.now ≡ jet_at c.loop-i.jets.items c.loop-i.i = at_index c.loop-i.jets.items c.loop-i.i c.loop-i.i c.index.result.now c.index.ensures refl (ChainLemmas.place_inside m n c.args.k c.loop-i.i c.args.moves.now f c.loop-i.jets.items c.loop-i.invariant.within c.loop-i.invariant.carried) in
+    let en : c.index-moves-i.result.n ≡ n = ap (λ (u : Change g.row.R-Elem.Denot). u.n) c.index-moves-i.is ∙ c.requires.variables c.loop-i.i c.index-moves-i.result c.loop-i-test.true in
+    ap (λ (u : JetTerms g.row.R-Elem.Denot). u.n) here ∙ b.variables ∙ sym en
+
+pub loop-i-preserved : goal.loop-i-preserved
+loop-i-preserved g c =
+    let m = g.R.Ring.meaning c.args.ring.now in
+    let n = c.args.f.now.n in
+    let f = jet n m.scalars c.args.k (poly_of n m.value c.args.f.now.terms) in
+    let i = c.loop-i.i in
+    let here : c.index.result.now ≡ jet_at c.loop-i.jets.items i = at_index c.loop-i.jets.items i i c.index.result.now c.index.ensures refl (ChainLemmas.place_inside m n c.args.k i c.args.moves.now f c.loop-i.jets.items c.loop-i.invariant.within c.loop-i.invariant.carried) in
+    let en : c.index-moves-i.result.n ≡ n = ap (λ (u : Change g.row.R-Elem.Denot). u.n) c.index-moves-i.is ∙ c.requires.variables i c.index-moves-i.result c.loop-i-test.true in
+    record {
+      within = omega arith;
+      carried = subst (AreCarried m n c.args.k (take (i + 1) (map (move_from m n) c.args.moves.now)) f) (sym c.in_ok-push-2.ensures.items)
+          (ChainLemmas.carried_next m n c.args.k i c.args.moves.now c.index-moves-i.result f c.loop-i.jets.items c.index.result.now c.loop-i-test.true c.index-moves-i.is en here c.loop-i.invariant.carried c.in_ok-next.next c.in_ok-next.ensures.jet);
+    }
+
+pub returns-in_err-next-clause-range : goal.returns-in_err-next-clause-range
+returns-in_err-next-clause-range g c =
+    let m = g.R.Ring.meaning c.args.ring.now in
+    let n = c.args.f.now.n in
+    let f = jet n m.scalars c.args.k (poly_of n m.value c.args.f.now.terms) in
+    let i = c.loop-i.i in
+    let here : c.index.result.now ≡ jet_at c.loop-i.jets.items i = at_index c.loop-i.jets.items i i c.index.result.now c.index.ensures refl (ChainLemmas.place_inside m n c.args.k i c.args.moves.now f c.loop-i.jets.items c.loop-i.invariant.within c.loop-i.invariant.carried) in
+    let en : c.index-moves-i.result.n ≡ n = ap (λ (u : Change g.row.R-Elem.Denot). u.n) c.index-moves-i.is ∙ c.requires.variables i c.index-moves-i.result c.loop-i-test.true in
+    fault_handed_on _ c.from_residual-in_err-next.ensures.1
+    (ChainLemmas.high_next m n c.args.k i c.args.moves.now c.index-moves-i.result f c.loop-i.jets.items c.index.result.now c.loop-i-test.true c.index-moves-i.is en here c.loop-i.invariant.carried)
+    c.in_err-next.ensures.range
+
+pub returns-clause-jets : goal.returns-clause-jets
+returns-clause-jets g c =
+    let m = g.R.Ring.meaning c.args.ring.now in
+    let n = c.args.f.now.n in
+    let f = jet n m.scalars c.args.k (poly_of n m.value c.args.f.now.terms) in
+    let last : length c.args.moves.now ≤ c.loop-i.i = c.loop-i-test.false in
+    subst (λ ms. AreCarried m n c.args.k ms f c.loop-i.jets.items) (take_all c.loop-i.i (map (move_from m n) c.args.moves.now) (let y = length-mapped (move_from m n) c.args.moves.now in omega arith)) c.loop-i.invariant.carried
