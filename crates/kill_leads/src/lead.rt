@@ -48,7 +48,7 @@ fn summand(p: Product) -> Summand
     let [i, j, k] = p.1;
     Summand {
         number: p.0,
-        exponents: [i, j, k, 0, 0, 0],
+        exponents: [i, j, k, 0, 0, 0, 0, 0, 0, 0],
     }
 }
 

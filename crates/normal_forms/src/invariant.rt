@@ -12,15 +12,15 @@ use ring_law::{Frac, Range, Ring};
 pub const QUARTIC_I: [Summand; 3] = [
     Summand {
         number: 1,
-        exponents: [1, 0, 0, 0, 1, 0],
+        exponents: [1, 0, 0, 0, 1, 0, 0, 0, 0, 0],
     },
     Summand {
         number: -4,
-        exponents: [0, 1, 0, 1, 0, 0],
+        exponents: [0, 1, 0, 1, 0, 0, 0, 0, 0, 0],
     },
     Summand {
         number: 3,
-        exponents: [0, 0, 2, 0, 0, 0],
+        exponents: [0, 0, 2, 0, 0, 0, 0, 0, 0, 0],
     },
 ];
 
@@ -28,23 +28,23 @@ pub const QUARTIC_I: [Summand; 3] = [
 pub const QUARTIC_J: [Summand; 5] = [
     Summand {
         number: 1,
-        exponents: [1, 0, 1, 0, 1, 0],
+        exponents: [1, 0, 1, 0, 1, 0, 0, 0, 0, 0],
     },
     Summand {
         number: 2,
-        exponents: [0, 1, 1, 1, 0, 0],
+        exponents: [0, 1, 1, 1, 0, 0, 0, 0, 0, 0],
     },
     Summand {
         number: -1,
-        exponents: [1, 0, 0, 2, 0, 0],
+        exponents: [1, 0, 0, 2, 0, 0, 0, 0, 0, 0],
     },
     Summand {
         number: -1,
-        exponents: [0, 2, 0, 0, 1, 0],
+        exponents: [0, 2, 0, 0, 1, 0, 0, 0, 0, 0],
     },
     Summand {
         number: -1,
-        exponents: [0, 0, 3, 0, 0, 0],
+        exponents: [0, 0, 3, 0, 0, 0, 0, 0, 0, 0],
     },
 ];
 
@@ -52,36 +52,36 @@ pub const QUARTIC_J: [Summand; 5] = [
 pub const QUARTIC_DISCRIMINANT: [Summand; 2] = [
     Summand {
         number: 1,
-        exponents: [3, 0, 0, 0, 0, 0],
+        exponents: [3, 0, 0, 0, 0, 0, 0, 0, 0, 0],
     },
     Summand {
         number: -27,
-        exponents: [0, 2, 0, 0, 0, 0],
+        exponents: [0, 2, 0, 0, 0, 0, 0, 0, 0, 0],
     },
 ];
 
 /// `1728*I^3`, in the letter I.
 pub const QUARTIC_NUMERATOR: [Summand; 1] = [Summand {
     number: 1728,
-    exponents: [3, 0, 0, 0, 0, 0],
+    exponents: [3, 0, 0, 0, 0, 0, 0, 0, 0, 0],
 }];
 
 /// `4*c2^3 + 27*c1*c3^2`, in the letters c1, c2, c3.
 pub const TRIPLE_DISCRIMINANT: [Summand; 2] = [
     Summand {
         number: 4,
-        exponents: [0, 3, 0, 0, 0, 0],
+        exponents: [0, 3, 0, 0, 0, 0, 0, 0, 0, 0],
     },
     Summand {
         number: 27,
-        exponents: [1, 0, 2, 0, 0, 0],
+        exponents: [1, 0, 2, 0, 0, 0, 0, 0, 0, 0],
     },
 ];
 
 /// `6912*c2^3`, in the letter c2.
 pub const TRIPLE_NUMERATOR: [Summand; 1] = [Summand {
     number: 6912,
-    exponents: [3, 0, 0, 0, 0, 0],
+    exponents: [3, 0, 0, 0, 0, 0, 0, 0, 0, 0],
 }];
 
 // v / n.

@@ -14,7 +14,7 @@ use ring_law::{Frac, Range, Ring};
 #[derive(Clone, Copy, Debug)]
 pub struct Summand {
     pub number: i32,
-    pub exponents: [u8; 6],
+    pub exponents: [u8; 10],
 }
 
 // A whole number as an element of the ring.
@@ -49,7 +49,7 @@ fn multiplied<R: Ring>(ring: &R, v: R::Elem, x: R::Elem, k: u8) -> Result<R::Ele
 fn value_of<R: Ring>(ring: &R, e: Summand, letters: &[R::Elem]) -> Result<R::Elem, Range>
     requires ring { R.is_ring ring.now }
     requires letters { All (R.meaning ring.now).is_elem letters.now }
-    requires at_most_6_letters { length letters.now ≤ 6 }
+    requires at_most_10_letters { length letters.now ≤ 10 }
     ensures elem { IfOk result (R.meaning ring.now).is_elem }
     ensures value { IfOk result (λ y. let m = R.meaning ring.now in m.value y ≡ summand_value m.scalars (map m.value letters.now) e) }
     ensures range { OnRange result (let m = R.meaning ring.now in IsHigh (summand_heights m.scalars (map m.value letters.now) e)) }
@@ -72,7 +72,7 @@ pub fn evaluate<R: Ring>(
 ) -> Result<R::Elem, Range>
     requires ring { R.is_ring ring.now }
     requires letters { All (R.meaning ring.now).is_elem letters.now }
-    requires at_most_6_letters { length letters.now ≤ 6 }
+    requires at_most_10_letters { length letters.now ≤ 10 }
     ensures elem { IfOk result (R.meaning ring.now).is_elem }
     ensures value { IfOk result (λ y. let m = R.meaning ring.now in m.value y ≡ formula_value m.scalars (map m.value letters.now) formula.now) }
     ensures range { OnRange result (let m = R.meaning ring.now in IsHigh (formula_heights m.scalars (map m.value letters.now) formula.now)) }
