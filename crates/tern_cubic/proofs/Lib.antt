@@ -1,0 +1,4 @@
+mod KernelLemmas
+mod CubicJets
+mod Multiples
+mod RowLemmas
