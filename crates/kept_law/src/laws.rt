@@ -1,7 +1,7 @@
 //! Laws of carried jets, of the split move and of the base kill, each the contract of a function
 //! that does nothing.
 
-ghost use Rattle.kept_law.specs.KeptParts.{AllKillsKeep, AllSplitsKeep, JetsLow, KillsLeaveNoLead, LettersStay, LowStays, SplitStays, SquaresStay};
+ghost use Rattle.kept_law.specs.KeptParts.{AllKillsKeep, AllSplitsKeep, GradesAreKilled, JetsLow, KillsLeaveNoLead, LettersStay, LowStays, SplitStays, SquaresStay};
 
 use ring_law::Ring;
 
@@ -51,4 +51,11 @@ pub fn kills_keep<R: Ring>()
 /// divided by is invertible.
 pub fn kills_leave_no_lead<R: Ring>()
     ensures { (a : R) → R.is_ring a → KillsLeaveNoLead (R.meaning a).scalars }
+{}
+
+/// The kill move of a grade above that of the part keeps the split form, the coefficients of the
+/// squares and the residual terms of lower grade, and leaves no residual term of that grade that a
+/// lead of the part divides.
+pub fn grades_are_killed<R: Ring>()
+    ensures { (a : R) → R.is_ring a → GradesAreKilled (R.meaning a).scalars }
 {}
