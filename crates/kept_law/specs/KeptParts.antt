@@ -78,7 +78,7 @@ module _ {V : Type 0} (s : Scalars V) where
   abbrev pub LettersAgree : Type 0
   LettersAgree = (n o : ℕ) (p : Part) → (row p).degree ≤ o → (f g : Polynomial n V) → SameToIn n s.ops o f g → letters_of n s p f ≡ letters_of n s p g
 
-  -- of polynomials that agree up to degree o, at least that of the part, either both have residual terms below the degree of the part or none
+  -- of two polynomials that agree up to degree o, at least that of the part: where one has no residual term below the degree of the part, the other has none
   abbrev pub LowAgrees : Type 0
   LowAgrees = (n c o k : ℕ) (p : Part) → c ≤ n → (row p).degree ≤ o → o ≤ k → (f g : Polynomial n V) → SameToIn n s.ops o f g → StartsAtPart n s c o p g → StartsAtPart n s c k p f
 
@@ -107,7 +107,7 @@ module _ {V : Type 0} (s : Scalars V) where
   JetsLow = (n k : ℕ) → 1 ≤ k → (moves : List (Move n V)) → AllByRecursion (λ m. HaveNoConstant n s.ops n (put n s m)) moves → (g : Polynomial n V) → StartsAtIn n s.ops 2 g
       → StartsAtIn n s.ops 2 (carry_all n s k moves (jet n s k g))
 
-  -- what the split move of a degree above that of the part keeps, where f has no terms of degree below 2 and is split up to degree 2
+  -- what the split move of a degree above that of the part keeps, where f has no terms of degree below 2, is split up to degree 2, and nothing residual stands below the degree of the part
   abbrev pub AllSplitsKeep : Type 0
   AllSplitsKeep = (n c o : ℕ) (p : Part) → c ≤ n → (row p).degree ≤ o → (f : Polynomial n V) → StartsAtIn n s.ops 2 f → IsSplitUpTo n s c 2 f → StartsAtPart n s c (suc o) p f
       → SplitKeepsPart n s c o p f
