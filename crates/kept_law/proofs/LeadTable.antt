@@ -4,7 +4,7 @@ use Rattle.std.specs.Prelude.{Contains}
 use Rattle.std.specs.List.{list_all, AllByRecursion}
 use Rattle.std.proofs.lemmas.List.Sums.{AllPass-from_list_all}
 use Rattle.ring_theory.specs.Scalars.{Scalars}
-use Rattle.poly_law.specs.Exps.{plus, degree, all_to}
+use Rattle.poly_law.specs.Exps.{plus, none, variable, degree, all_to}
 use Rattle.poly_law.specs.ExpList.{ExpList, exps}
 use Rattle.poly_law.specs.Polynomials.{Polynomial}
 use Rattle.poly_law.proofs.ExpLists.{exps_are}
@@ -97,11 +97,11 @@ drop-none [] = refl
 drop-none (k ∷ e) = refl
 
 weight-next : (w : ℕ) (ws e : List ℕ) → weighted_degree_of (w ∷ ws) e ≡ w * get_or e 0 0 + weighted_degree_of ws (drop 1 e)
-weight-next w ws [] = let a : w * 0 ≡ 0 = omega arith in let b = none ws in omega arith
+weight-next w ws [] = let a : w * 0 ≡ 0 = omega arith in let b = empty ws in omega arith
   where
-    none : (ws : List ℕ) → weighted_degree_of ws [] ≡ 0
-    none [] = refl
-    none (w ∷ ws) = refl
+    empty : (ws : List ℕ) → weighted_degree_of ws [] ≡ 0
+    empty [] = refl
+    empty (w ∷ ws) = refl
 weight-next w ws (k ∷ e) = ap (λ z. w * k + weighted_degree_of ws z) (sym (drop-none e))
 
 get-drop : (e : List ℕ) (i : ℕ) → get_or (drop 1 e) i 0 ≡ get_or e (suc i) 0
@@ -138,6 +138,23 @@ weight-ones (w ∷ ws) (k ∷ e) h l =
     let s = sum-cons k e in
     omega arith
 
+weight-zero : (ws e : List ℕ) → ((k : ℕ) → k < length ws → get_or e k 0 ≡ 0) → weighted_degree_of ws e ≡ 0
+weight-zero ws e h = weight-same ws [] e h ∙ weight-empty ws
+
+-- the weight of exponents that are 1 at i alone
+weight-unit : (ws e : List ℕ) (i : ℕ) → i < length ws → get_or e i 0 ≡ 1 → ((k : ℕ) → k < length ws → (k ≡ i → ⊥) → get_or e k 0 ≡ 0) → weighted_degree_of ws e ≡ get_or ws i 0
+weight-unit [] e i h one zeros = absurd (omega arith)
+weight-unit (w ∷ ws) e zero h one zeros =
+    let next = weight-next w ws e in
+    let rest = weight-zero ws (drop 1 e) (λ k g. get-drop e k ∙ zeros (suc k) (omega arith) (λ z. omega arith)) in
+    let first : w * get_or e 0 0 ≡ w * 1 = ap (λ z. w * z) one in
+    omega arith
+weight-unit (w ∷ ws) e (suc i) h one zeros =
+    let next = weight-next w ws e in
+    let rest = weight-unit ws (drop 1 e) i (omega arith) (get-drop e i ∙ one) (λ k g ne. get-drop e k ∙ zeros (suc k) (omega arith) (λ z. ne (omega arith))) in
+    let first : w * get_or e 0 0 ≡ w * 0 = ap (λ z. w * z) (zeros 0 (omega arith) (λ z. omega arith)) in
+    omega arith
+
 pub own_zero : (c : ℕ) (e : List ℕ) → is_own c e ≡ true → (i : ℕ) → c ≤ i → get_or e i 0 ≡ 0
 own_zero zero [] h i g = refl
 own_zero zero (k ∷ e) h zero g = eqb-true k 0 (and_left (eqb k 0) (list_all (λ k. eqb k 0) e) h)
@@ -152,14 +169,14 @@ module _ (n : ℕ) (p : Part) (inside : length (row p).weights ≤ n) where
   abbrev ws : List ℕ
   ws = (row p).weights
 
-  abbrev wd : ExpList n → ℕ
+  abbrev pub wd : ExpList n → ℕ
   wd m = weighted_degree_of ws m.entries
 
   -- no variable but the part's own
   abbrev pub IsOwn : ExpList n → Type 0
   IsOwn m = (w : ℕ) → length ws ≤ w → w < n → (exps n).at m w ≡ 0
 
-  wd-plus : (a b : ExpList n) → wd (plus (exps n) a b) ≡ wd a + wd b
+  pub wd-plus : (a b : ExpList n) → wd (plus (exps n) a b) ≡ wd a + wd b
   wd-plus a b = weight-sum ws a.entries b.entries (plus (exps n) a b).entries (λ i h. ExpLaws.at-plus (exps n) (exps_are n) a b i (omega arith))
 
   at-monomial : (e : List ℕ) (i : ℕ) → i < n → (exps n).at (monomial_in n e) i ≡ get_or e i 0
@@ -186,6 +203,19 @@ module _ (n : ℕ) (p : Part) (inside : length (row p).weights ≤ n) where
       let d = at-monomial e w g in
       let z = own_zero (length ws) e q w past in
       omega arith
+
+  -- the weight of one of the part's variables
+  pub wd-variable : (i : ℕ) → i < length ws → wd (variable (exps n) i) ≡ get_or ws i 0
+  wd-variable i h = weight-unit ws (variable (exps n) i).entries i h (ExpLaws.at-variable (exps n) (exps_are n) i i (omega arith) ∙ ExpLaws.unit_yes i i refl)
+      (λ k g ne. ExpLaws.at-variable (exps n) (exps_are n) i k (omega arith) ∙ ExpLaws.unit_no k i ne)
+
+  -- what has a weight has a degree
+  pub degree-positive : (m : ExpList n) → 1 ≤ wd m → 1 ≤ degree (exps n) m
+  degree-positive m h = elim (ExpLaws.zero_or_not (degree (exps n) m)) [
+    | inr p ↦ p
+    | inl z ↦ (let e : wd m ≡ 0 = ap wd (ExpLaws.none_of_degree (exps n) (exps_are n) m z)
+        ∙ weight-same ws [] (none (exps n)).entries (λ i g. ExpLaws.at-none (exps n) (exps_are n) i (omega arith)) ∙ weight-empty ws in absurd (omega arith))
+  ]
 
   -- with all weights 1 the degree of a monomial in the part's variables is its weighted degree
   pub degree-own : AllByRecursion (λ w. w ≡ 1) ws → (m : ExpList n) → IsOwn m → degree (exps n) m ≡ wd m

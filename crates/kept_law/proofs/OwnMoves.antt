@@ -1,17 +1,19 @@
 -- A change that adds to the first variables terms in these alone, and leaves the others: how it acts on a split form.
 use mathlib.Core.Path.{fun_ext}
-use Rattle.std.proofs.Common.{◌≡◌, ◌≢◌, ℕ, zero, suc, ◌+◌, ◌*◌, ◌<◌, ◌≤◌, ◌⊎◌, inl, inr, Bool, true, false, not, cond, eqb, eqb-true, eq-eqb, ltb, lt-ltb, le-ltb, [], ◌∷◌, filter, refl, sym, ap, ap₂, subst, ◌∙◌, arith}
+use Rattle.std.proofs.Common.{◌≡◌, ◌≢◌, ℕ, zero, suc, ◌+◌, ◌-◌, ◌*◌, ◌<◌, ◌≤◌, ◌⊎◌, inl, inr, Bool, true, false, not, cond, eqb, eqb-true, eq-eqb, leb, leb-true, leb-false, ltb, lt-ltb, le-ltb, [], ◌∷◌, filter, refl, sym, ap, ap₂, subst, ◌∙◌, arith}
 use Rattle.ring_theory.specs.Ring.{RingOps, IsCommRing}
 use Rattle.ring_theory.specs.Scalars.{Scalars, ScalarLaws}
 use Rattle.ring_theory.proofs.ValueSet.{values_are_set}
 use Rattle.poly_law.specs.Sums.{total, product_to, power}
-use Rattle.poly_law.specs.Exps.{Exps, IsExps, plus, none, variable, same, degree}
-use Rattle.poly_law.specs.Poly.{Terms, coefficient, times, times_term, poly_ops, combination, term, Same, SameTo, StartsAt, monomial_of, subst_in}
+use Rattle.poly_law.specs.Exps.{Exps, IsExps, plus, none, lower, variable, same, degree}
+use Rattle.poly_law.specs.Poly.{Terms, coefficient, times, times_term, poly_ops, combination, derivative, term, Same, StartsAt, monomial_of, subst_in}
 use Rattle.poly_law.proofs.Sums
 use Rattle.poly_law.proofs.ExpLaws
 use Rattle.poly_law.proofs.Pair
 use Rattle.poly_law.proofs.Pair.{pair, at_only}
+use Rattle.poly_law.proofs.Linear
 use Rattle.poly_law.proofs.Order
+use Rattle.poly_law.proofs.Subst
 use Rattle.poly_law.proofs.SubstOrder
 use Rattle.poly_law.proofs.Near
 use Rattle.mono_exp.proofs.Lists.{Each, each-append}
@@ -97,12 +99,45 @@ module _ {E V : Type 0} (x : Exps E) (l : IsExps x) (s : Scalars V) (laws : Scal
       ap₂ r.add (ap (λ b. cond b t.1 r.zero) (ExpLaws.same-no x l t.0 m (λ e. ne (sym (ap (λ z. x.at z w) e) ∙ a.0)))) (exponent-zero w g k a.1 m ne)
       ∙ c.add_zero r.zero
 
+  -- ---- Taylor's first order for a weight of monomials
+
+  -- the terms of weight at least d
+  abbrev heavy : (E → ℕ) → ℕ → Terms E V → Terms E V
+  heavy weight d f = filter (λ t. leb d (weight t.0)) f
+
+  heavy_same : (weight : E → ℕ) (d : ℕ) (f : Terms E V) → ((m : E) → weight m < d → coefficient x r f m ≡ r.zero) → Same x r f (heavy weight d f)
+  heavy_same weight d f light m = step (leb d (weight m)) refl ∙ sym (Order.coefficient-filter x l r c (λ a. leb d (weight a)) f m)
+    where
+      step : (b : Bool) → leb d (weight m) ≡ b → coefficient x r f m ≡ cond b (coefficient x r f m) r.zero
+      step true q = refl
+      step false q = light m (leb-false d (weight m) q)
+
+  all_heavy : (weight : E → ℕ) (d : ℕ) (f : Terms E V) → AllFrom weight d (heavy weight d f)
+  all_heavy weight d [] = tt
+  all_heavy weight d (t ∷ f) = step (leb d (weight t.0)) refl (all_heavy weight d f)
+    where
+      step : (b : Bool) → leb d (weight t.0) ≡ b → AllFrom weight d (heavy weight d f) → AllFrom weight d (cond b (t ∷ heavy weight d f) (heavy weight d f))
+      step true q rest = (leb-true d (weight t.0) q, rest)
+      step false q rest = rest
+
+  -- where the u(i) weigh e more than x(i), and f at least d, f becomes f and the sum of the u(i) times its partial derivatives, up to weight d + 2*e
+  pub first_by_weight : (weight : E → ℕ) → ((a b : E) → weight (plus x a b) ≡ weight a + weight b) → (d e : ℕ) (u : ℕ → Terms E V)
+      → ((i : ℕ) → i < x.count → AllFrom weight (weight (variable x i) + e) (u i)) → (f : Terms E V) → ((m : E) → weight m < d → coefficient x r f m ≡ r.zero) → (m : E) → weight m < d + (e + e)
+      → coefficient x r (subst_in x x r (λ i. (variable x i, r.one) ∷ u i) f) m ≡ r.add (coefficient x r f m) (coefficient x r (combination x r u f) m)
+  first_by_weight weight adds d e u high f light m h =
+      let g = heavy weight d f in
+      let equal = heavy_same weight d f light in
+      Subst.subst_same x l x l r c set (λ i. (variable x i, r.one) ∷ u i) f g equal m
+      ∙ Taylor.taylor x l r c set weight adds u e high d g (all_heavy weight d f) m h
+      ∙ Order.coefficient-append x l r c g (combination x r u g) m
+      ∙ ap₂ r.add (sym (equal m)) (sym (SplitOff.combination_same x l r c set u f g equal m))
+
   -- ---- the change
 
-  module _ (first : ℕ) (u : ℕ → Terms E V) (e : ℕ) (positive : 1 ≤ e)
+  module _ (first : ℕ) (u : ℕ → Terms E V)
       (own : (i : ℕ) → i < first → i < x.count → (w : ℕ) → first ≤ w → w < x.count → HasExponent w 0 (u i))
       (nothing : (i : ℕ) → first ≤ i → i < x.count → u i ≡ [])
-      (high : (i : ℕ) → i < x.count → AllFrom (degree x) (suc e) (u i)) where
+      (low : (i : ℕ) → i < x.count → StartsAt x r 1 (u i)) where
     abbrev pub parts : ℕ → Terms E V
     parts i = (variable x i, r.one) ∷ u i
 
@@ -153,20 +188,8 @@ module _ {E V : Type 0} (x : Exps E) (l : IsExps x) (s : Scalars V) (laws : Scal
     other_square a m w past inside ne =
         exponent-zero w (image a) (x.at a w) (subst (λ b. HasExponent w (cond b (x.at a w) 0) (image a)) (lt-ltb w x.count inside) (image_exponent a w past inside x.count (omega arith))) m ne
 
-    -- ---- parts of the form variable plus higher terms
-
-    more_starts : (i : ℕ) → i < x.count → StartsAt x r (suc e) (u i)
-    more_starts i h = Taylor.low_zero x l r c set (degree x) (ExpLaws.degree-plus x l) (suc e) (u i) (high i h)
-
-    near : (i : ℕ) → i < x.count → SameTo x r 1 (parts i) (term x r (variable x i))
-    near i h m low = ap (r.add (cond (same x (variable x i) m) r.one r.zero)) (more_starts i h m (omega arith))
-
     starts : (i : ℕ) → i < x.count → StartsAt x r 1 (parts i)
-    starts i h m low = near i h m (omega arith) ∙ Near.variables_start x l r c set i h m low
-
-    -- nothing changes in the lowest degree
-    lowest_same : (d : ℕ) (f : Terms E V) → StartsAt x r d f → SameTo x r d (subst_in x x r parts f) f
-    lowest_same d f start = Near.near_identity x l r c set parts starts near d f start
+    starts i h = Order.starts_append x l r c 1 (term x r (variable x i)) (u i) (Near.variables_start x l r c set i h) (low i h)
 
     -- a monomial of higher degree than m does not give m
     higher : (a m : E) → degree x m < degree x a → coefficient x r (image a) m ≡ r.zero
@@ -250,20 +273,66 @@ module _ {E V : Type 0} (x : Exps E) (l : IsExps x) (s : Scalars V) (laws : Scal
             step true q = refl
             step false q = absurd (pure_no m q free)
 
-        -- where they start at degree d, they give themselves and the sum of the u(i) times their partial derivatives, up to degree d + 2*e
-        pub pure_first : (d : ℕ) → StartsAt x r d pure_terms → (m : E) → ((w : ℕ) → first ≤ w → w < x.count → x.at m w ≡ 0) → degree x m < d + (e + e)
-            → moved f m ≡ r.add (coefficient x r f m) (coefficient x r (combination x r u pure_terms) m)
-        pure_first d start m free h =
-            pure_moved m free
-            ∙ SplitOff.first_order x l r c set u d e high pure_terms start m h
-            ∙ ap (λ z. r.add z (coefficient x r (combination x r u pure_terms) m)) (coefficient-pure m free)
+        -- for a weight of monomials: where the u(i) weigh e more than x(i), and these terms at least d, they give themselves and the sum of the u(i) times their partial
+        -- derivatives, up to weight d + 2*e
+        module _ (weight : E → ℕ) (adds : (a b : E) → weight (plus x a b) ≡ weight a + weight b) (d e : ℕ)
+            (high : (i : ℕ) → i < x.count → AllFrom weight (weight (variable x i) + e) (u i))
+            (light : (m : E) → weight m < d → coefficient x r pure_terms m ≡ r.zero) where
+          pub pure_first : (m : E) → ((w : ℕ) → first ≤ w → w < x.count → x.at m w ≡ 0) → weight m < d + (e + e)
+              → moved f m ≡ r.add (coefficient x r f m) (coefficient x r (combination x r u pure_terms) m)
+          pure_first m free h =
+              pure_moved m free
+              ∙ first_by_weight weight adds d e u high pure_terms light m h
+              ∙ ap (λ z. r.add z (coefficient x r (combination x r u pure_terms) m)) (coefficient-pure m free)
 
-        pub pure_below : (d : ℕ) → StartsAt x r d pure_terms → (m : E) → ((w : ℕ) → first ≤ w → w < x.count → x.at m w ≡ 0) → degree x m < d + e → moved f m ≡ coefficient x r f m
-        pure_below d start m free h =
-            pure_first d start m free (omega arith)
-            ∙ ap (r.add (coefficient x r f m)) (SplitOff.combination_starts x l r c set u d e more_starts pure_terms start m h)
-            ∙ c.add_zero (coefficient x r f m)
+          -- below weight d + e nothing changes
+          pub pure_below : 0 < e → (m : E) → ((w : ℕ) → first ≤ w → w < x.count → x.at m w ≡ 0) → weight m < d + e → moved f m ≡ coefficient x r f m
+          pure_below positive m free h =
+              pure_first m free (omega arith)
+              ∙ ap (r.add (coefficient x r f m))
+              (SplitOff.combination_same x l r c set u pure_terms (heavy weight d pure_terms) (heavy_same weight d pure_terms light) m
+              ∙ Linear.coefficient-sum_to x l r c x.count (λ i. times x r (u i) (derivative x r i (heavy weight d pure_terms))) m
+              ∙ Sums.sum_to-nothing r c x.count (λ i. coefficient x r (times x r (u i) (derivative x r i (heavy weight d pure_terms))) m)
+              (λ i g.
+              let v = weight (variable x i) in
+              Taylor.low_zero x l r c set weight adds (v + e + (d - v)) (times x r (u i) (derivative x r i (heavy weight d pure_terms)))
+              (Taylor.from_times x l r c set weight adds (v + e) (d - v) (u i) (derivative x r i (heavy weight d pure_terms)) (high i g)
+              (Taylor.from_derivative x l r c set weight adds i g d (heavy weight d pure_terms) (all_heavy weight d pure_terms))) m (omega arith)))
+              ∙ c.add_zero (coefficient x r f m)
+
+      -- a monomial of degree at most 2 with w twice is the square of w
+      only_square : (a : E) (w : ℕ) → w < x.count → x.at a w ≡ 2 → degree x a ≤ 2 → a ≡ square_of w
+      only_square a w inside two h =
+          let once = ExpLaws.variable-lower x l w a (omega arith) in
+          let down = ExpLaws.at-lower x l w a w inside in
+          let same_one : cond (eqb w w) (x.at a w - 1) (x.at a w) ≡ x.at a w - 1 = ap (λ b. cond b (x.at a w - 1) (x.at a w)) (eq-eqb w w refl) in
+          let less = ExpLaws.degree-lower x l w a (omega arith) inside in
+          let again = ExpLaws.variable-lower x l w (lower x w a) (omega arith) in
+          let least = ExpLaws.degree-lower x l w (lower x w a) (omega arith) inside in
+          let nothing_left = ExpLaws.none_of_degree x l (lower x w (lower x w a)) (omega arith) in
+          sym once ∙ ap (plus x (variable x w)) (sym again ∙ ap (plus x (variable x w)) nothing_left ∙ ExpLaws.plus-none x l (variable x w))
 
       -- squares of square variables keep their coefficients
-      pub square_kept : StartsAt x r 2 f → (w : ℕ) → w < x.count → moved f (square_of w) ≡ coefficient x r f (square_of w)
-      square_kept start w h = lowest_same 2 f start (square_of w) (let a = ExpLaws.degree-plus x l (variable x w) (variable x w) in let b = ExpLaws.degree-variable x l w h in omega arith)
+      pub square_kept : (w : ℕ) → first ≤ w → w < x.count → moved f (square_of w) ≡ coefficient x r f (square_of w)
+      square_kept w past inside =
+          SubstOrder.coefficient-subst x l x l r c set parts f (square_of w)
+          ∙ pair_where f (λ a. coefficient x r (image a) (square_of w)) (at_only x r (square_of w)) (λ a there. at a (same x a (square_of w)) refl (low_or_high (degree x a) 2))
+          ∙ sym (Pair.coefficient_is x r c f (square_of w))
+        where
+          double : x.at (square_of w) w ≡ 2
+          double = let a = ExpLaws.at-plus x l (variable x w) (variable x w) w inside in let b = ExpLaws.at-variable x l w w inside in let z = ExpLaws.unit_yes w w refl in omega arith
+
+          of_degree : degree x (square_of w) ≡ 2
+          of_degree = let a = ExpLaws.degree-plus x l (variable x w) (variable x w) in let b = ExpLaws.degree-variable x l w inside in omega arith
+
+          at : (a : E) (b : Bool) → same x a (square_of w) ≡ b → (degree x a ≤ 2) ⊎ (2 < degree x a) → coefficient x r (image a) (square_of w) ≡ cond (same x a (square_of w)) r.one r.zero
+          at a true q o =
+              ap (λ y. coefficient x r (image y) (square_of w)) (ExpLaws.same-eq x l a (square_of w) q) ∙ image_square w past inside (square_of w)
+              ∙ ap (λ y. cond (same x y (square_of w)) r.one r.zero) (sym (ExpLaws.same-eq x l a (square_of w) q))
+          at a false q (inr above) = higher a (square_of w) (let d = of_degree in omega arith) ∙ sym (ap (λ b. cond b r.one r.zero) q)
+          at a false q (inl h) =
+              other_square a (square_of w) w past inside (λ z. bad (sym q ∙ ap (λ y. same x y (square_of w)) (only_square a w inside (sym z ∙ double) h) ∙ ExpLaws.same_refl x l (square_of w)))
+              ∙ sym (ap (λ b. cond b r.one r.zero) q)
+            where
+              bad : false ≡ true → ⊥
+              bad y = cc y

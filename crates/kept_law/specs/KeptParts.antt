@@ -1,12 +1,13 @@
 -- What the moves of an order keep of all that the plan has reached: the coefficients of the squares, the split form, the letters of the part, and that nothing residual
 -- stands below its degree. The square variables are those from c on, the residual ones the first c.
-use Rattle.std.specs.Prelude.{◌≡◌, ℕ, suc, ◌≤◌, true, length, List, Contains}
+use Rattle.std.specs.Prelude.{◌≡◌, ℕ, suc, ◌<◌, ◌≤◌, true, length, List, Contains}
 use Rattle.std.specs.List.{AllByRecursion}
 use Rattle.ring_theory.specs.Scalars.{Scalars}
 use Rattle.poly_law.specs.Exps.{degree}
 use Rattle.poly_law.specs.ExpList.{ExpList, exps}
 use Rattle.poly_law.specs.Poly.{place}
 use Rattle.poly_law.specs.Polynomials.{Polynomial, SameToIn, StartsAtIn, HaveNoConstant, coefficient_in}
+use Rattle.mono_exp.specs.Exponents.{weighted_degree_of}
 use Rattle.jet_law.specs.Canonical.{jet, monomial_in}
 use Rattle.kill_law.specs.declared.lead.Lead.{Lead}
 use Rattle.kill_law.specs.declared.part.Part.{Part}
@@ -48,6 +49,26 @@ module _ {V : Type 0} (n : ℕ) (s : Scalars V) (c : ℕ) where
     pub letters : letters_of n s p (kill_off (suc o) p f) ≡ letters_of n s p f
     pub low : StartsAtPart (suc o) p (kill_off (suc o) p f)
 
+  -- the residual terms of f have at least the weighted degree of the part, and those of this degree are its form with the letters of f
+  pub record HasPrincipalPart (p : Part) (f : Polynomial n V) : Type 0 where
+    pub above : (b : ExpList c) → weighted_degree_of (row p).weights b.entries < (row p).degree → coefficient_in n s.ops f (place (exps n) (exps c) s.ops b) ≡ s.ops.zero
+    pub form : (b : ExpList c) → weighted_degree_of (row p).weights b.entries ≡ (row p).degree
+        → coefficient_in n s.ops f (place (exps n) (exps c) s.ops b) ≡ coefficient_in c s.ops (form_of s (letters_of n s p f) c p) b
+
+  -- f carried by its kill move of a grade of a part, up to degree k
+  abbrev pub kill_grade : ℕ → ℕ → Part → Polynomial n V → Polynomial n V
+  kill_grade k grade p f = carry n s k (kill_move n s (letters_of n s p f) p grade f) f
+
+  -- the kill move of a grade keeps the split form and the coefficients of the squares up to degree k, and of the residual terms up to degree k those of lower grade; and it
+  -- leaves none of that grade that a lead of the part divides
+  pub record GradeIsKilled (k grade : ℕ) (p : Part) (f : Polynomial n V) : Type 0 where
+    pub split : IsSplitUpTo n s c k (kill_grade k grade p f)
+    pub squares : squares_in n s c (kill_grade k grade p f) ≡ squares_in n s c f
+    pub below : (b : ExpList c) → degree (exps c) b ≤ k → weighted_degree_of (row p).weights b.entries < grade
+        → coefficient_in n s.ops (kill_grade k grade p f) (place (exps n) (exps c) s.ops b) ≡ coefficient_in n s.ops f (place (exps n) (exps c) s.ops b)
+    pub reduced : (l : Lead) → Contains (row p).leads l → (b : ExpList c) → degree (exps c) b ≤ k → weighted_degree_of (row p).weights b.entries ≡ grade
+        → divides c (monomial_in c l.monomial) b ≡ true → coefficient_in n s.ops (kill_grade k grade p f) (place (exps n) (exps c) s.ops b) ≡ s.ops.zero
+
 -- all weights of the part are 1: its form is homogeneous
 abbrev pub IsBasePart : Part → Type 0
 IsBasePart p = AllByRecursion (λ w. w ≡ 1) (row p).weights
@@ -57,7 +78,7 @@ module _ {V : Type 0} (s : Scalars V) where
   abbrev pub LettersAgree : Type 0
   LettersAgree = (n o : ℕ) (p : Part) → (row p).degree ≤ o → (f g : Polynomial n V) → SameToIn n s.ops o f g → letters_of n s p f ≡ letters_of n s p g
 
-  -- of polynomials that agree up to degree o, at least that of the part, either both have residual terms below the degree of the part or none
+  -- of two polynomials that agree up to degree o, at least that of the part: where one has no residual term below the degree of the part, the other has none
   abbrev pub LowAgrees : Type 0
   LowAgrees = (n c o k : ℕ) (p : Part) → c ≤ n → (row p).degree ≤ o → o ≤ k → (f g : Polynomial n V) → SameToIn n s.ops o f g → StartsAtPart n s c o p g → StartsAtPart n s c k p f
 
@@ -86,7 +107,7 @@ module _ {V : Type 0} (s : Scalars V) where
   JetsLow = (n k : ℕ) → 1 ≤ k → (moves : List (Move n V)) → AllByRecursion (λ m. HaveNoConstant n s.ops n (put n s m)) moves → (g : Polynomial n V) → StartsAtIn n s.ops 2 g
       → StartsAtIn n s.ops 2 (carry_all n s k moves (jet n s k g))
 
-  -- what the split move of a degree above that of the part keeps, where f has no terms of degree below 2 and is split up to degree 2
+  -- what the split move of a degree above that of the part keeps, where f has no terms of degree below 2, is split up to degree 2, and nothing residual stands below the degree of the part
   abbrev pub AllSplitsKeep : Type 0
   AllSplitsKeep = (n c o : ℕ) (p : Part) → c ≤ n → (row p).degree ≤ o → (f : Polynomial n V) → StartsAtIn n s.ops 2 f → IsSplitUpTo n s c 2 f → StartsAtPart n s c (suc o) p f
       → SplitKeepsPart n s c o p f
@@ -104,3 +125,8 @@ module _ {V : Type 0} (s : Scalars V) where
       → ((l : Lead) → Contains (row p).leads l → HasInvertibleDivisors s (letters_of n s p f) l)
       → (l : Lead) → Contains (row p).leads l → (m : ExpList n) → degree (exps n) m ≡ suc o → divides n (monomial_in n l.monomial) m ≡ true
       → coefficient_in n s.ops (kill_off n s c (suc o) p f) m ≡ s.ops.zero
+
+  -- so for each grade above the degree of the part, where f is split up to degree k, has the principal part, and what the leads are divided by is invertible
+  abbrev pub GradesAreKilled : Type 0
+  GradesAreKilled = (n c k grade : ℕ) (p : Part) → c ≤ n → length (row p).weights ≡ c → 2 ≤ k → (row p).degree < grade → (f : Polynomial n V) → IsSplitUpTo n s c k f → HasPrincipalPart n s c p f
+      → ((l : Lead) → Contains (row p).leads l → HasInvertibleDivisors s (letters_of n s p f) l) → GradeIsKilled n s c k grade p f

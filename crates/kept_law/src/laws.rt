@@ -1,9 +1,20 @@
 //! Laws of carried jets, of the split move and of the base kill, each the contract of a function
 //! that does nothing.
 
-ghost use Rattle.kept_law.specs.KeptParts.{AllKillsKeep, AllSplitsKeep, JetsLow, KillsLeaveNoLead, LettersStay, LowStays, SplitStays, SquaresStay};
+ghost use Rattle.kept_law.specs.KeptParts.{AllKillsKeep, AllSplitsKeep, GradesAreKilled, JetsLow, KillsLeaveNoLead, LettersAgree, LettersStay, LowAgrees, LowStays, SplitStays, SquaresStay};
 
 use ring_law::Ring;
+
+/// The letters of a part are those of every polynomial that agrees up to the degree of the part.
+pub fn letters_agree<R: Ring>()
+    ensures { (a : R) → R.is_ring a → LettersAgree (R.meaning a).scalars }
+{}
+
+/// Of polynomials that agree up to at least the degree of a part, where nothing residual stands
+/// below that degree in one, nothing does in the other.
+pub fn low_agrees<R: Ring>()
+    ensures { (a : R) → R.is_ring a → LowAgrees (R.meaning a).scalars }
+{}
 
 /// The coefficients of the squares of a jet that moves carry up to degree o ≥ 2 are those of the
 /// jet that they carry up to degree o + 1.
@@ -51,4 +62,11 @@ pub fn kills_keep<R: Ring>()
 /// divided by is invertible.
 pub fn kills_leave_no_lead<R: Ring>()
     ensures { (a : R) → R.is_ring a → KillsLeaveNoLead (R.meaning a).scalars }
+{}
+
+/// The kill move of a grade above that of the part keeps the split form, the coefficients of the
+/// squares and the residual terms of lower grade, and leaves no residual term of that grade that a
+/// lead of the part divides.
+pub fn grades_are_killed<R: Ring>()
+    ensures { (a : R) → R.is_ring a → GradesAreKilled (R.meaning a).scalars }
 {}

@@ -1,12 +1,11 @@
 -- The terms that the split move puts for a square variable, as they are written one after the other.
 use Rattle.std.proofs.Common.{◌≡◌, ◌≢◌, ℕ, zero, suc, ◌+◌, ◌-◌, ◌<◌, ◌≤◌, ◌^◌, ◌⊎◌, inl, inr, Bool, true, false, ◌||◌, ◌&&◌, cond, eqb, List, [], ◌∷◌, ◌++◌, map, take, get_or, set, length, sum, refl, sym, ap, ap₂, subst, ◌∙◌, append_assoc, append-nil, arith}
-use Rattle.std.specs.List.{AllByRecursion, flat_map}
+use Rattle.std.specs.List.{flat_map}
 use Rattle.std.proofs.lemmas.Bool.{lt-ltb}
 use Rattle.std.proofs.lemmas.List.Concat.{flat_map-append}
-use Rattle.ring_theory.specs.Scalars.{Scalars, ScalarLaws, Meaning, MeaningLaws}
-use Rattle.poly_law.specs.Exps.{lower, degree, variable}
+use Rattle.ring_theory.specs.Scalars.{Meaning, MeaningLaws}
+use Rattle.poly_law.specs.Exps.{lower, degree}
 use Rattle.poly_law.specs.ExpList.{ExpList, exps}
-use Rattle.poly_law.specs.Polynomials.{Polynomial}
 use Rattle.poly_law.proofs.ExpLists.{exps_are}
 use Rattle.poly_law.proofs.ExpLaws
 use Rattle.mono_exp.specs.declared.exponent.Exp.{Exp}
@@ -14,8 +13,8 @@ use Rattle.mono_exp.specs.Exponents.{IsIn, is_before, is_greater_first}
 use Rattle.mono_exp.proofs.Lists.{sum-cons}
 use Rattle.jet_law.specs.Terms.{exp_of, poly_of}
 use Rattle.jet_law.proofs.TermLemmas.{poly_of-take, poly_of-push, degree-exp_of}
-use Rattle.jet_poly.specs.JetTerms.{JetTerms, IsRising, AllAfter}
-use Rattle.jet_poly.specs.Jets.{IsJet, whole}
+use Rattle.jet_poly.specs.JetTerms.{IsRising}
+use Rattle.jet_poly.specs.Jets.{IsJet}
 use Rattle.jet_poly.proofs.Derived.{AreReady, IsTerm, keys, key-read, keys-rise, before-lowered, in-lowered, degree-lowered, lowered, ready-jet}
 use Rattle.jet_poly.proofs.GatheredLemmas.{weaker}
 use Rattle.jet_poly.proofs.Output.{all-push, rising-push}
@@ -24,9 +23,9 @@ use Rattle.coord_change.specs.Linear.{one_at}
 use Rattle.coord_change.proofs.ChangeLemmas.{one_at-in, exp_of-one_at}
 use Rattle.lin_row.specs.Plain.{Among}
 use Rattle.coord_change.specs.Moves.{variable_of}
-use Rattle.move_law.specs.Split.{belongs_to, half_inverse, completed_by, completed, completed_work}
+use Rattle.move_law.specs.Split.{belongs_to, completed_by, completed_work}
 use Rattle.move_law.specs.Work.{Work, IsWorkHigh}
-use Rattle.split_lemma.specs.Splits.{AreTermsOf, AnyHigh, completing_work}
+use Rattle.split_lemma.specs.Splits.{AreTermsOf}
 use Rattle.split_lemma.proofs.Belonging.{Belongs, belongs}
 
 sum-lowered : (v : ℕ) (e : List ℕ) → 0 < get_or e v 0 → sum (lowered v e) + 1 ≡ sum e

@@ -1,5 +1,5 @@
 -- The parts of a split move as the parts of a change of coordinates.
-use Rattle.std.proofs.Common.{◌≡◌, ◌≢◌, ℕ, zero, suc, ◌+◌, ◌-◌, ◌*◌, ◌<◌, ◌≤◌, ◌⊎◌, inl, inr, Bool, true, false, ◌&&◌, cond, leb, List, [], ◌∷◌, ◌++◌, map, length, get_or, All, refl, sym, ap, ap₂, subst, ◌∙◌, append-nil, add-one, arith}
+use Rattle.std.proofs.Common.{◌≡◌, ℕ, zero, suc, ◌+◌, ◌-◌, ◌*◌, ◌<◌, ◌≤◌, Bool, true, false, cond, leb, List, [], ◌∷◌, ◌++◌, map, length, get_or, All, refl, sym, ap, ap₂, subst, ◌∙◌, append-nil, add-one, arith}
 use Rattle.std.specs.List.{flat_map}
 use Rattle.std.specs.Prelude.{nat_lt}
 use Rattle.std.proofs.lemmas.List.{map-append, get_or-map, length-map}
@@ -8,8 +8,8 @@ use Rattle.std.proofs.lemmas.Bool.{lt-leb}
 use Rattle.ring_theory.specs.Scalars.{Scalars, ScalarLaws, Meaning, MeaningLaws}
 use Rattle.ring_theory.proofs.ValueSet.{values_are_set}
 use Rattle.poly_law.specs.Sums.{unit_at}
-use Rattle.poly_law.specs.Exps.{variable, degree, lower, same}
-use Rattle.poly_law.specs.ExpList.{ExpList, exps}
+use Rattle.poly_law.specs.Exps.{variable, degree, lower}
+use Rattle.poly_law.specs.ExpList.{exps}
 use Rattle.poly_law.specs.Poly.{coefficient, term, cut, SameTo}
 use Rattle.poly_law.specs.Polynomials.{Polynomial}
 use Rattle.poly_law.proofs.ExpLists.{exps_are}
@@ -20,16 +20,14 @@ use Rattle.mono_exp.specs.Exponents.{numbers_below}
 use Rattle.mono_exp.proofs.Lists.{length-numbers_below, get_or-numbers_below}
 use Rattle.jet_law.specs.Terms.{poly_of}
 use Rattle.jet_poly.specs.JetTerms.{JetTerms}
-use Rattle.jet_poly.specs.Jets.{IsJet}
-use Rattle.jet_subst.specs.Parts.{IsPart, part_of, jet_at}
-use Rattle.coord_change.specs.declared.change.Change.{Change}
-use Rattle.coord_change.specs.Changes.{IsChange, entry_of}
+use Rattle.jet_subst.specs.Parts.{IsPart, part_of}
+use Rattle.coord_change.specs.Changes.{entry_of}
 use Rattle.coord_change.specs.Linear.{one_at}
-use Rattle.coord_change.specs.Moves.{Move, move_from, variable_of}
+use Rattle.coord_change.specs.Moves.{variable_of}
 use Rattle.coord_change.proofs.ChangeLemmas
 use Rattle.lin_row.specs.Plain.{Among}
 use Rattle.move_law.specs.Split.{belongs_to, half_inverse, completed_by, completed, split_put, split_work_at, split_move, split_work}
-use Rattle.move_law.specs.Work.{Work, IsWorkHigh}
+use Rattle.move_law.specs.Work.{IsWorkHigh}
 use Rattle.split_lemma.specs.Splits.{IsJetFor, IsMoveExactly}
 use Rattle.split_lemma.proofs.Belonging.{belongs_facts}
 use Rattle.split_lemma.proofs.CompletedTerms.{among_mapped}

@@ -1,17 +1,15 @@
-use Rattle.std.proofs.Common.{◌≡◌, ◌≢◌, ◌+◌, ◌<◌, inl, inr, List, [], ◌∷◌, ◌++◌, get_or, length, rules, ap, ap₂, sym, subst, ◌∙◌, arith}
+use Rattle.std.proofs.Common.{◌≡◌, ◌≢◌, ◌+◌, ◌<◌, inr, [], ◌∷◌, ◌++◌, get_or, length, rules, ap, sym, subst, ◌∙◌, arith}
 use Rattle.std.specs.List.{flat_map}
 use Rattle.ring_law.proofs.Exits.{faulted}
-use Rattle.poly_law.specs.Exps.{lower}
-use Rattle.poly_law.specs.ExpList.{exps}
 use Rattle.mono_exp.specs.Exponents.{IsIn}
-use Rattle.jet_law.specs.Terms.{exp_of, poly_of}
+use Rattle.jet_law.specs.Terms.{poly_of}
 use Rattle.jet_law.proofs.TermLemmas.{exp_of-lower}
 use Rattle.jet_poly.specs.JetTerms.{IsRising}
 use Rattle.jet_poly.specs.Jets.{whole}
 use Rattle.coord_change.specs.Linear.{one_at}
 use Rattle.coord_change.specs.Moves.{variable_of}
 use Rattle.lin_row.specs.Plain.{Among}
-use Rattle.move_law.specs.Split.{completed, completed_by, completed_work, half_inverse}
+use Rattle.move_law.specs.Split.{completed, completed_by, completed_work}
 use Rattle.move_law.specs.Work.{IsWorkHigh}
 use Rattle.split_lemma.specs.Splits.{AreTermsOf}
 use Rattle.split_lemma.proofs.Halves.{zero_from_double, zero_from_quotient, zero_from_negative}
