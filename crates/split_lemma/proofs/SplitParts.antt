@@ -28,7 +28,7 @@ use Rattle.coord_change.proofs.ChangeLemmas
 use Rattle.lin_row.specs.Plain.{Among}
 use Rattle.move_law.specs.Split.{belongs_to, half_inverse, completed_by, completed, split_put, split_work_at, split_move, split_work}
 use Rattle.move_law.specs.Work.{IsWorkHigh}
-use Rattle.split_lemma.specs.Splits.{IsJetFor, IsMoveExactly}
+use Rattle.coord_change.specs.MoveJets.{IsJetFor, IsMoveExactly}
 use Rattle.split_lemma.proofs.Belonging.{belongs_facts}
 use Rattle.split_lemma.proofs.CompletedTerms.{among_mapped}
 

@@ -6,10 +6,7 @@ use Rattle.mono_exp.specs.declared.exponent.Exp.{Exp}
 use Rattle.jet_law.specs.Terms.{poly_of}
 use Rattle.jet_poly.specs.JetTerms.{JetTerms, IsRising}
 use Rattle.jet_poly.specs.Jets.{IsJet, whole}
-use Rattle.coord_change.specs.declared.change.Change.{Change}
-use Rattle.coord_change.specs.Changes.{IsChange}
 use Rattle.lin_row.specs.Plain.{Among}
-use Rattle.coord_change.specs.Moves.{Move, move_from}
 use Rattle.move_law.specs.Split.{half_inverse, completed_work}
 use Rattle.move_law.specs.Work as work
 use Rattle.move_law.specs.Work.{Work, IsWorkHigh}
@@ -20,20 +17,6 @@ module _ {E V : Type 0} (m : Meaning E V) (n : ℕ) where
     pub jet : IsJet m (record { n = n; order = k; terms = terms })
     pub rising : IsRising terms
     pub polynomial : poly_of n m.value terms ≡ p
-
-  -- f is a jet of order k in n variables, and its polynomial is p
-  pub record IsJetFor (k : ℕ) (p : Polynomial n V) (f : JetTerms E) : Type 0 where
-    pub jet : IsJet m f
-    pub variables : f.n ≡ n
-    pub order : f.order ≡ k
-    pub polynomial : poly_of n m.value f.terms ≡ p
-
-  -- the change is one in n variables of order k, with the inverse of its linear part, and its parts are the polynomials of the move
-  pub record IsMoveExactly (k : ℕ) (move : Move n V) (c : Change E) : Type 0 where
-    pub change : IsChange m c
-    pub variables : c.n ≡ n
-    pub order : c.order ≡ k
-    pub parts : move_from m n c ≡ move
 
 -- some of the operations forms a number of height at least 2^120
 abbrev pub AnyHigh : {V : Type 0} (n : ℕ) → Scalars V → List (Work n V) → Type 0

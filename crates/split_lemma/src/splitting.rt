@@ -5,7 +5,8 @@ ghost use Rattle.ring_law.specs.Refusals.{OnFault};
 ghost use Rattle.jet_law.specs.Terms.{poly_of};
 ghost use Rattle.jet_poly.specs.Jets.{IsJet};
 ghost use Rattle.move_law.specs.Split.{split_put, split_work_at, split_move, split_work};
-ghost use Rattle.split_lemma.specs.Splits.{IsJetFor, IsMoveExactly, AnyHigh};
+ghost use Rattle.coord_change.specs.MoveJets.{IsJetFor, IsMoveExactly};
+ghost use Rattle.split_lemma.specs.Splits.{AnyHigh};
 
 use crate::completing::completed_terms;
 use coord_change::{Change, ChangeOf, monomial, unit_matrix};

@@ -4,7 +4,7 @@ use Rattle.jet_law.specs.Terms.{poly_of}
 use Rattle.coord_change.specs.Linear.{one_at}
 use Rattle.coord_change.specs.Moves.{variable_of}
 use Rattle.move_law.specs.Split.{completed}
-use Rattle.split_lemma.specs.Splits.{IsJetFor}
+use Rattle.coord_change.specs.MoveJets.{IsJetFor}
 use Rattle.split_lemma.proofs.SplitParts.{variable_part}
 use Rattle.split_lemma.proofs.splitting.put.Goals as goal
 

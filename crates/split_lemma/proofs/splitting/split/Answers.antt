@@ -6,7 +6,7 @@ use Rattle.jet_law.specs.Terms.{poly_of}
 use Rattle.jet_poly.specs.JetTerms.{JetTerms}
 use Rattle.coord_change.specs.Changes.{entry_of}
 use Rattle.move_law.specs.Split.{split_put, split_move}
-use Rattle.split_lemma.specs.Splits.{IsMoveExactly}
+use Rattle.coord_change.specs.MoveJets.{IsMoveExactly}
 use Rattle.split_lemma.proofs.SplitParts.{AreJetsFor, are_more, part_high, split_is}
 use Rattle.split_lemma.proofs.splitting.split.Goals as goal
 
