@@ -6,3 +6,10 @@ pub mod LinearMoves
 pub mod SquareSteps
 pub mod ReachedForms
 pub mod SumOfSquares
+pub mod CanonicalJets
+pub mod ComposedMoves
+pub mod MatrixMoves
+pub mod Pivots
+pub mod AllSquares
+pub mod StageSteps
+pub mod DiagonalAnswers

@@ -16,7 +16,8 @@ use Rattle.mono_exp.proofs.Lists.{Each, each-append, length-numbers_below, get_o
 use Rattle.coord_change.specs.Linear.{linear_form}
 use Rattle.coord_change.specs.Moves.{Move, move_of, put, variable_of}
 use Rattle.move_law.specs.Moves.{linear}
-use Rattle.hessian_rank.proofs.NumberLists.{Has, Distinct, each-has, has-numbers_below}
+use Rattle.hessian_rank.specs.Sound.{Has, Distinct, IsLinear}
+use Rattle.hessian_rank.proofs.NumberLists.{each-has, has-numbers_below}
 
 module _ {V : Type 0} (n : ℕ) (s : Scalars V) (laws : ScalarLaws s) where
   -- all monomials are variables
@@ -90,20 +91,15 @@ module _ {V : Type 0} (n : ℕ) (s : Scalars V) (laws : ScalarLaws s) where
   unfolding move_of
   length-move_of ps = length-map (numbers_below n) _ ∙ length-numbers_below n
 
-  -- what a move puts for each variable is the linear form with a row of w as coefficients
-  pub record IsLinear (w : ℕ → ℕ → V) (move : Move n V) : Type 0 where
-    pub long : length move ≡ n
-    pub forms : (a : ℕ) → a < n → SameIn n s.ops (put n s move a) (linear_form n s.ops (w a))
-
   -- the entries of the linear part are those of the matrix
-  pub entries : (w : ℕ → ℕ → V) (move : Move n V) → IsLinear w move → (a b : ℕ) → a < n → b < n → coefficient (exps n) s.ops (put n s move a) (variable (exps n) b) ≡ w a b
+  pub entries : (w : ℕ → ℕ → V) (move : Move n V) → IsLinear n s w move → (a b : ℕ) → a < n → b < n → coefficient (exps n) s.ops (put n s move a) (variable (exps n) b) ≡ w a b
   entries w move is a b ha hb = is.forms a ha (variable (exps n) b) ∙ Linear.coefficient-linear (exps n) (exps_are n) s.ops laws.ring (w a) b hb
 
   -- ---- one variable goes to itself and more
 
   -- x(i) goes to itself and a sum of multiples of variables: the identity but for row i
   pub one_more : (i : ℕ) → i < n → (rest : Polynomial n V) → AllLinear rest → (d : ℕ → V) → ((b : ℕ) → b < n → coefficient (exps n) s.ops rest (variable (exps n) b) ≡ d b)
-      → IsLinear (λ a b. s.ops.add (unit_at s.ops a b) (cond (eqb a i) (d b) s.ops.zero)) (move_of n s ((i, variable_of n s i ++ rest) ∷ []))
+      → IsLinear n s (λ a b. s.ops.add (unit_at s.ops a b) (cond (eqb a i) (d b) s.ops.zero)) (move_of n s ((i, variable_of n s i ++ rest) ∷ []))
   one_more i hi rest linear d is = record {
     long = length-move_of ((i, variable_of n s i ++ rest) ∷ []);
     forms = λ a ha b. ap (λ z. coefficient (exps n) s.ops z b) (put_first (i, variable_of n s i ++ rest) [] a ha ∙ ap (cond (eqb i a) (variable_of n s i ++ rest)) (put_nothing a ha)) ∙ step a ha (eqb i a) (eqb a i) refl refl b;
@@ -153,6 +149,11 @@ module _ {V : Type 0} (n : ℕ) (s : Scalars V) (laws : ScalarLaws s) where
             ap₂ s.ops.add (ap (λ z. cond z (g j) s.ops.zero) (same_variables j b e.0 hb ∙ ne_eqb j b (λ q. each-has (λ y. j ≢ y) js b d.0 k q))) (rest k)
             ∙ zero_add (g b)
 
+    -- a further multiple, of another variable
+    pub append_other : (js : List ℕ) (j b : ℕ) → j < n → b < n → b ≢ j → coefficient (exps n) s.ops (linear n s (map (λ j. (g j, j)) (js ++ j ∷ []))) (variable (exps n) b) ≡ coefficient (exps n) s.ops (linear n s (map (λ j. (g j, j)) js)) (variable (exps n) b)
+    append_other [] j b hj hb ne = ap (λ z. s.ops.add (cond z (g j) s.ops.zero) s.ops.zero) (same_variables j b hj hb ∙ ne_eqb j b (λ q. ne (sym q))) ∙ laws.ring.add_zero s.ops.zero
+    append_other (i ∷ js) j b hj hb ne = ap (s.ops.add (cond (same (exps n) (variable (exps n) i) (variable (exps n) b)) (g i) s.ops.zero)) (append_other js j b hj hb ne)
+
   -- ---- variables that change places
 
   module _ (g : ℕ → ℕ) where
@@ -179,7 +180,7 @@ module _ {V : Type 0} (n : ℕ) (s : Scalars V) (laws : ScalarLaws s) where
 
     -- x(g(k)) goes to x(k) for each k below n, where g takes these to different numbers, and each number below n is one of them
     pub places : ((j k : ℕ) → j < n → k < n → g j ≡ g k → j ≡ k) → ((a : ℕ) → a < n → (k : ℕ) × (k < n) × (g k ≡ a))
-        → IsLinear (λ a b. unit_at s.ops a (g b)) (move_of n s (map (λ k. (g k, variable_of n s k)) (numbers_below n)))
+        → IsLinear n s (λ a b. unit_at s.ops a (g b)) (move_of n s (map (λ k. (g k, variable_of n s k)) (numbers_below n)))
     places injective onto = record {
       long = length-move_of (map (λ k. (g k, variable_of n s k)) (numbers_below n));
       forms = λ a ha. at_image a (onto a ha) ha;

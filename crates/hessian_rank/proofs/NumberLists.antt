@@ -1,19 +1,10 @@
 -- Lists of different numbers.
-use Rattle.std.proofs.Common.{◌≡◌, ◌≢◌, ℕ, zero, suc, ◌+◌, ◌<◌, ◌⊎◌, inl, inr, Bool, true, false, not, cond, eqb, eqb-true, eq-eqb, List, [], ◌∷◌, ◌++◌, map, length, get_or, ap, sym, ◌∙◌, refl, subst, arith}
+use Rattle.std.proofs.Common.{◌≡◌, ◌≢◌, ℕ, zero, suc, ◌+◌, ◌<◌, ◌⊎◌, inl, inr, Bool, true, false, not, cond, eqb, eqb-true, eq-eqb, List, [], ◌∷◌, ◌++◌, map, length, get_or, take, All, ap, sym, ◌∙◌, refl, subst, arith}
 use Rattle.std.specs.List.{filter}
-use Rattle.lin_row.specs.Plain.{Among}
 use Rattle.mono_exp.specs.Exponents.{numbers_below}
 use Rattle.std.proofs.lemmas.List.{map-append}
+use Rattle.hessian_rank.specs.Sound.{Has, Distinct}
 use Rattle.mono_exp.proofs.Lists.{Each, each-append, each-weaker, map-map, numbers_are_below}
-
--- i is among the numbers of a list
-abbrev pub Has : List ℕ → ℕ → Type 0
-Has xs i = Among (λ j. j ≡ i) xs
-
--- no number stands twice
-abbrev pub Distinct : List ℕ → Type 0
-Distinct [] = Unit {0}
-Distinct (x ∷ xs) = Each (λ y. x ≢ y) xs × Distinct xs
 
 -- what holds of each number of a list holds of one that it has
 pub each-has : (P : ℕ → Type 0) (xs : List ℕ) (i : ℕ) → Each P xs → Has xs i → P i
@@ -172,3 +163,29 @@ map-places f [] = refl
 map-places f (y ∷ ys) =
     ap (map (λ i. f (get_or (y ∷ ys) i 0))) (shift (length ys))
     ∙ ap (λ z. f y ∷ z) (map-map (λ i. f (get_or (y ∷ ys) i 0)) suc (numbers_below (length ys)) ∙ map-places f ys)
+
+-- ---- the first numbers of a list
+
+-- a number at a place, whatever stands past the end
+pub place-here : (xs : List ℕ) (k j : ℕ) → k < length xs → j ≡ get_or xs k j → Has xs j
+place-here [] k j h e = absurd (omega arith)
+place-here (x ∷ xs) zero j h e = inl (sym e)
+place-here (x ∷ xs) (suc k) j h e = inr (place-here xs k j (omega arith) e)
+
+-- what holds of each holds of each of the first k
+pub each-take : (P : ℕ → Type 0) (k : ℕ) (xs : List ℕ) → Each P xs → Each P (take k xs)
+each-take P zero xs e = tt
+each-take P (suc k) [] e = tt
+each-take P (suc k) (x ∷ xs) e = (e.0, each-take P k xs e.1)
+
+-- the first k of different numbers are different
+pub distinct-take : (k : ℕ) (xs : List ℕ) → Distinct xs → Distinct (take k xs)
+distinct-take zero xs d = tt
+distinct-take (suc k) [] d = tt
+distinct-take (suc k) (x ∷ xs) d = (each-take (λ y. x ≢ y) k xs d.0, distinct-take k xs d.1)
+
+-- what holds of each, by places
+pub each-all : (P : ℕ → Type 0) (xs : List ℕ) → Each P xs → All P xs
+each-all P [] e k d h = absurd (omega arith)
+each-all P (x ∷ xs) e zero d h = e.0
+each-all P (x ∷ xs) e (suc k) d h = each-all P xs e.1 k d (omega arith)

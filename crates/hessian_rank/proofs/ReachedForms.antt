@@ -16,7 +16,7 @@ use Rattle.jet_law.specs.Canonical.{jet}
 use Rattle.germ_law.proofs.Canonical
 use Rattle.coord_change.specs.Moves.{Move, put, identity, variable_of}
 use Rattle.coord_change.specs.Carries.{carry, compose}
-use Rattle.hessian_rank.proofs.LinearMoves.{IsLinear}
+use Rattle.hessian_rank.specs.Sound.{IsLinear}
 use Rattle.hessian_rank.proofs.SquareSteps
 
 module _ {V : Type 0} (n : ℕ) (s : Scalars V) (laws : ScalarLaws s) where
@@ -55,7 +55,7 @@ module _ {V : Type 0} (n : ℕ) (s : Scalars V) (laws : ScalarLaws s) where
   }
 
   -- one linear move more
-  pub step_reaches : (w : ℕ → ℕ → V) (move : Move n V) → IsLinear n s laws w move → (f : Polynomial n V) (change : Move n V) (form : Polynomial n V) → Reaches f change form
+  pub step_reaches : (w : ℕ → ℕ → V) (move : Move n V) → IsLinear n s w move → (f : Polynomial n V) (change : Move n V) (form : Polynomial n V) → Reaches f change form
       → SameTo (exps n) s.ops 2 (carry n s 2 move form) (substitute n n s.ops (put n s (compose n s 16 change move)) f)
   step_reaches w move is f change form r b h =
       carried_to 2 move form b h
@@ -65,10 +65,10 @@ module _ {V : Type 0} (n : ℕ) (s : Scalars V) (laws : ScalarLaws s) where
       (λ i hi a g. sym (carried_to 16 move (put n s change i) a (omega arith)) ∙ ap (λ z. coefficient (exps n) s.ops z a) (sym (put_composed 16 change move i (let l = r.long in omega arith)))) f b h
 
   -- so the moves reach, one after the other
-  pub moved_reaches : (w : ℕ → ℕ → V) (move : Move n V) → IsLinear n s laws w move → (f : Polynomial n V) (change : Move n V) (form : Polynomial n V) → Reaches f change form → Reaches f (compose n s 16 change move) (carry n s 2 move form)
+  pub moved_reaches : (w : ℕ → ℕ → V) (move : Move n V) → IsLinear n s w move → (f : Polynomial n V) (change : Move n V) (form : Polynomial n V) → Reaches f change form → Reaches f (compose n s 16 change move) (carry n s 2 move form)
   moved_reaches w move is f change form r = record { long = length-composed 16 change move ∙ r.long; same = step_reaches w move is f change form r }
 
   -- f carried by the whole is the form carried by the last move
-  pub last_move : (w : ℕ → ℕ → V) (move : Move n V) → IsLinear n s laws w move → (f : Polynomial n V) (change : Move n V) (form : Polynomial n V) → Reaches f change form
+  pub last_move : (w : ℕ → ℕ → V) (move : Move n V) → IsLinear n s w move → (f : Polynomial n V) (change : Move n V) (form : Polynomial n V) → Reaches f change form
       → SameTo (exps n) s.ops 2 (carry n s 2 (compose n s 16 change move) f) (carry n s 2 move form)
   last_move w move is f change form r b h = carried_to 2 (compose n s 16 change move) f b h ∙ sym (step_reaches w move is f change form r b h)

@@ -23,7 +23,7 @@ use Rattle.move_law.specs.Moves.{over, linear}
 use Rattle.move_law.specs.Hessian.{Squares, pairs, others, moved, entry, double, completing, close, mixing}
 use Rattle.split_lemma.proofs.Halves.{zero_from_double}
 use Rattle.hessian_rank.proofs.NumberLists
-use Rattle.hessian_rank.proofs.NumberLists.{Has, Distinct}
+use Rattle.hessian_rank.specs.Sound.{Has, Distinct, IsLinear, partial, IsSound}
 use Rattle.hessian_rank.proofs.MatrixSums
 use Rattle.hessian_rank.proofs.SecondPartials
 use Rattle.hessian_rank.proofs.PairExponents
@@ -94,27 +94,10 @@ pair-has P (x ∷ xs) e i j h g ne = step (halves (map (λ y. (x, y)) xs) (pairs
     step a (inr q) (inr r) rest = rest q r
 
 module _ {V : Type 0} (n : ℕ) (s : Scalars V) (laws : ScalarLaws s) where
-  -- the second partial at 0
-  abbrev pub partial : Polynomial n V → ℕ → ℕ → V
-  partial f i j = coefficient (exps n) s.ops (derivative (exps n) s.ops i f) (variable (exps n) j)
-
-  -- each variable is open or closed, and a closed one stands in the terms of degree 2 by its square alone
-  pub record IsSound (q : Squares n V) : Type 0 where
-    pub opened_inside : Each (λ i. i < n) q.opened
-    pub closed_inside : Each (λ i. i < n) q.closed
-    pub opened_distinct : Distinct q.opened
-    pub closed_distinct : Distinct q.closed
-    pub apart : (i : ℕ) → Has q.opened i → Has q.closed i → ⊥
-    pub covers : (i : ℕ) → i < n → Has q.opened i ⊎ Has q.closed i
-    pub count : length q.opened + length q.closed ≡ n
-    pub low : StartsAt (exps n) s.ops 2 q.form
-    pub products : (i j : ℕ) → Has q.closed i → j < n → i ≢ j → partial q.form i j ≡ s.ops.zero
-    pub squares : (i : ℕ) → Has q.closed i → partial q.form i i ≢ s.ops.zero
-
   -- ---- carrying by a linear move
 
   -- second partials at 0 are those of the terms of degree 2
-  pub partial_same : (f g : Polynomial n V) → SameTo (exps n) s.ops 2 f g → (i j : ℕ) → i < n → j < n → partial f i j ≡ partial g i j
+  pub partial_same : (f g : Polynomial n V) → SameTo (exps n) s.ops 2 f g → (i j : ℕ) → i < n → j < n → partial n s f i j ≡ partial n s g i j
   partial_same f g e i j hi hj =
       Place.coefficient-derivative (exps n) (exps_are n) s.ops laws.ring i hi f (variable (exps n) j)
       ∙ ap (multiple s.ops (suc ((exps n).at (variable (exps n) j) i))) (e (plus (exps n) (variable (exps n) j) (variable (exps n) i))
@@ -128,7 +111,7 @@ module _ {V : Type 0} (n : ℕ) (s : Scalars V) (laws : ScalarLaws s) where
   unfolding carry
   carried move f = Canonical.jet_same_to n s laws 2 (substitute n n s.ops (put n s move) f)
 
-  module _ (w : ℕ → ℕ → V) (move : Move n V) (linear_move : LinearMoves.IsLinear n s laws w move) where
+  module _ (w : ℕ → ℕ → V) (move : Move n V) (linear_move : IsLinear n s w move) where
     -- what the move puts has no constant term
     pub no_constant : (a : ℕ) → a < n → StartsAt (exps n) s.ops 1 (put n s move a)
     no_constant a h b low = linear_move.forms a h b ∙ Linear.starts_linear (exps n) (exps_are n) s.ops laws.ring (w a) b low
@@ -140,36 +123,36 @@ module _ {V : Type 0} (n : ℕ) (s : Scalars V) (laws : ScalarLaws s) where
 
     -- the second partials of what is carried
     carried_partial : (f : Polynomial n V) → StartsAt (exps n) s.ops 2 f → (i j : ℕ) → i < n → j < n
-        → partial (carry n s 2 move f) i j ≡ sum_to s.ops n (λ a. s.ops.mul (coefficient (exps n) s.ops (put n s move a) (variable (exps n) i)) (sum_to s.ops n (λ b. s.ops.mul (partial f a b) (coefficient (exps n) s.ops (put n s move b) (variable (exps n) j)))))
+        → partial n s (carry n s 2 move f) i j ≡ sum_to s.ops n (λ a. s.ops.mul (coefficient (exps n) s.ops (put n s move a) (variable (exps n) i)) (sum_to s.ops n (λ b. s.ops.mul (partial n s f a b) (coefficient (exps n) s.ops (put n s move b) (variable (exps n) j)))))
     carried_partial f two i j hi hj =
         partial_same (carry n s 2 move f) (substitute n n s.ops (put n s move) f) (carried move f) i j hi hj
         ∙ SecondPartials.second-subst (exps n) (exps_are n) s.ops laws.ring (values_are_set s laws) (put n s move) no_constant f two i j hi hj
 
   -- after x(i) went to itself and the sum of the d(b) x(b)
-  pub after_shear : (i : ℕ) → i < n → (d : ℕ → V) (move : Move n V) → LinearMoves.IsLinear n s laws (λ a b. s.ops.add (unit_at s.ops a b) (cond (eqb a i) (d b) s.ops.zero)) move
+  pub after_shear : (i : ℕ) → i < n → (d : ℕ → V) (move : Move n V) → IsLinear n s (λ a b. s.ops.add (unit_at s.ops a b) (cond (eqb a i) (d b) s.ops.zero)) move
       → (f : Polynomial n V) → StartsAt (exps n) s.ops 2 f → (p q : ℕ) → p < n → q < n
-      → partial (carry n s 2 move f) p q ≡ s.ops.add (s.ops.add (partial f p q) (s.ops.mul (partial f p i) (d q))) (s.ops.mul (s.ops.add (partial f i q) (s.ops.mul (partial f i i) (d q))) (d p))
+      → partial n s (carry n s 2 move f) p q ≡ s.ops.add (s.ops.add (partial n s f p q) (s.ops.mul (partial n s f p i) (d q))) (s.ops.mul (s.ops.add (partial n s f i q) (s.ops.mul (partial n s f i i) (d q))) (d p))
   after_shear i hi d move is f two p q hp hq =
       carried_partial (λ a b. s.ops.add (unit_at s.ops a b) (cond (eqb a i) (d b) s.ops.zero)) move is f two p q hp hq
       ∙ MatrixSums.sheared s.ops laws.ring n i hi d (λ a b. coefficient (exps n) s.ops (put n s move a) (variable (exps n) b))
-      (LinearMoves.entries n s laws (λ a b. s.ops.add (unit_at s.ops a b) (cond (eqb a i) (d b) s.ops.zero)) move is) (partial f) p q hp hq
+      (LinearMoves.entries n s laws (λ a b. s.ops.add (unit_at s.ops a b) (cond (eqb a i) (d b) s.ops.zero)) move is) (partial n s f) p q hp hq
 
   -- after x(g(k)) went to x(k)
-  pub after_places : (g : ℕ → ℕ) → ((b : ℕ) → b < n → g b < n) → (move : Move n V) → LinearMoves.IsLinear n s laws (λ a b. unit_at s.ops a (g b)) move
-      → (f : Polynomial n V) → StartsAt (exps n) s.ops 2 f → (p q : ℕ) → p < n → q < n → partial (carry n s 2 move f) p q ≡ partial f (g p) (g q)
+  pub after_places : (g : ℕ → ℕ) → ((b : ℕ) → b < n → g b < n) → (move : Move n V) → IsLinear n s (λ a b. unit_at s.ops a (g b)) move
+      → (f : Polynomial n V) → StartsAt (exps n) s.ops 2 f → (p q : ℕ) → p < n → q < n → partial n s (carry n s 2 move f) p q ≡ partial n s f (g p) (g q)
   after_places g inside move is f two p q hp hq =
       carried_partial (λ a b. unit_at s.ops a (g b)) move is f two p q hp hq
       ∙ MatrixSums.placed s.ops laws.ring n g inside (λ a b. coefficient (exps n) s.ops (put n s move a) (variable (exps n) b))
-      (LinearMoves.entries n s laws (λ a b. unit_at s.ops a (g b)) move is) (partial f) p q hp hq
+      (LinearMoves.entries n s laws (λ a b. unit_at s.ops a (g b)) move is) (partial n s f) p q hp hq
 
   -- where d is 0 at p and products with p are 0, nothing changes at p
-  pub unchanged : (i : ℕ) → i < n → (d : ℕ → V) (move : Move n V) → LinearMoves.IsLinear n s laws (λ a b. s.ops.add (unit_at s.ops a b) (cond (eqb a i) (d b) s.ops.zero)) move
-      → (f : Polynomial n V) → StartsAt (exps n) s.ops 2 f → (p q : ℕ) → p < n → q < n → d p ≡ s.ops.zero → partial f p i ≡ s.ops.zero → partial (carry n s 2 move f) p q ≡ partial f p q
+  pub unchanged : (i : ℕ) → i < n → (d : ℕ → V) (move : Move n V) → IsLinear n s (λ a b. s.ops.add (unit_at s.ops a b) (cond (eqb a i) (d b) s.ops.zero)) move
+      → (f : Polynomial n V) → StartsAt (exps n) s.ops 2 f → (p q : ℕ) → p < n → q < n → d p ≡ s.ops.zero → partial n s f p i ≡ s.ops.zero → partial n s (carry n s 2 move f) p q ≡ partial n s f p q
   unchanged i hi d move is f two p q hp hq own none =
       after_shear i hi d move is f two p q hp hq
-      ∙ ap₂ s.ops.add (ap (λ z. s.ops.add (partial f p q) (s.ops.mul z (d q))) none ∙ ap (s.ops.add (partial f p q)) (Sums.zero_mul s.ops laws.ring (d q)) ∙ laws.ring.add_zero (partial f p q))
-      (ap (s.ops.mul (s.ops.add (partial f i q) (s.ops.mul (partial f i i) (d q)))) own ∙ Sums.mul_zero s.ops laws.ring (s.ops.add (partial f i q) (s.ops.mul (partial f i i) (d q))))
-      ∙ laws.ring.add_zero (partial f p q)
+      ∙ ap₂ s.ops.add (ap (λ z. s.ops.add (partial n s f p q) (s.ops.mul z (d q))) none ∙ ap (s.ops.add (partial n s f p q)) (Sums.zero_mul s.ops laws.ring (d q)) ∙ laws.ring.add_zero (partial n s f p q))
+      (ap (s.ops.mul (s.ops.add (partial n s f i q) (s.ops.mul (partial n s f i i) (d q)))) own ∙ Sums.mul_zero s.ops laws.ring (s.ops.add (partial n s f i q) (s.ops.mul (partial n s f i i) (d q))))
+      ∙ laws.ring.add_zero (partial n s f p q)
 
   -- ---- completing a square
 
@@ -182,38 +165,38 @@ module _ {V : Type 0} (n : ℕ) (s : Scalars V) (laws : ScalarLaws s) where
   row_of q i b = coefficient (exps n) s.ops (linear n s (map (λ j. (coefficient_over q i j, j)) (others i q.opened))) (variable (exps n) b)
 
   -- completing a square is the identity but for its row
-  pub completing_is : (q : Squares n V) → IsSound q → (i : ℕ) → i < n → LinearMoves.IsLinear n s laws (λ a b. s.ops.add (unit_at s.ops a b) (cond (eqb a i) (row_of q i b) s.ops.zero)) (completing n s i q)
+  pub completing_is : (q : Squares n V) → IsSound n s q → (i : ℕ) → i < n → IsLinear n s (λ a b. s.ops.add (unit_at s.ops a b) (cond (eqb a i) (row_of q i b) s.ops.zero)) (completing n s i q)
   completing_is q sound i hi =
       LinearMoves.one_more n s laws i hi (linear n s (map (λ j. (coefficient_over q i j, j)) (others i q.opened)))
       (LinearMoves.multiples_linear n s laws (coefficient_over q i) (others i q.opened) (NumberLists.each-without i (λ j. j < n) q.opened sound.opened_inside)) (row_of q i) (λ b h. refl)
 
   -- another open variable has its coefficient
-  pub row_there : (q : Squares n V) → IsSound q → (i b : ℕ) → b < n → Has q.opened b → b ≢ i → row_of q i b ≡ coefficient_over q i b
+  pub row_there : (q : Squares n V) → IsSound n s q → (i b : ℕ) → b < n → Has q.opened b → b ≢ i → row_of q i b ≡ coefficient_over q i b
   row_there q sound i b hb h ne =
       LinearMoves.there n s laws (coefficient_over q i) (others i q.opened) (NumberLists.each-without i (λ j. j < n) q.opened sound.opened_inside) (NumberLists.distinct-without i q.opened sound.opened_distinct) b hb
       (NumberLists.has-without i q.opened b h ne)
 
   -- a variable that is not open has coefficient 0
-  pub row_absent : (q : Squares n V) → IsSound q → (i b : ℕ) → b < n → (Has (others i q.opened) b → ⊥) → row_of q i b ≡ s.ops.zero
+  pub row_absent : (q : Squares n V) → IsSound n s q → (i b : ℕ) → b < n → (Has (others i q.opened) b → ⊥) → row_of q i b ≡ s.ops.zero
   row_absent q sound i b hb out =
       LinearMoves.absent n s laws (coefficient_over q i) (others i q.opened) (NumberLists.each-without i (λ j. j < n) q.opened sound.opened_inside) b hb out
 
   -- so has x(i) itself
-  pub row_own : (q : Squares n V) → IsSound q → (i : ℕ) → i < n → row_of q i i ≡ s.ops.zero
+  pub row_own : (q : Squares n V) → IsSound n s q → (i : ℕ) → i < n → row_of q i i ≡ s.ops.zero
   row_own q sound i hi = row_absent q sound i i hi (λ h. (NumberLists.without-has i q.opened i h).1 refl)
 
   -- the second partial of a square, by its coefficient
-  pub own_partial : (q : Squares n V) (i : ℕ) → i < n → partial q.form i i ≡ double n s q i
+  pub own_partial : (q : Squares n V) (i : ℕ) → i < n → partial n s q.form i i ≡ double n s q i
   own_partial q i hi =
       PairExponents.second_is n s laws q.form i i hi hi ∙ ap (λ b. multiple s.ops (suc (cond b 1 0)) (entry n s q i i)) (eq-eqb i i refl) ∙ sym (whole-mul s laws 2 (entry n s q i i))
 
   -- and of a product
-  pub other_partial : (q : Squares n V) (i j : ℕ) → i < n → j < n → i ≢ j → partial q.form i j ≡ entry n s q i j
+  pub other_partial : (q : Squares n V) (i j : ℕ) → i < n → j < n → i ≢ j → partial n s q.form i j ≡ entry n s q i j
   other_partial q i j hi hj ne =
       PairExponents.second_is n s laws q.form i j hi hj ∙ ap (λ b. multiple s.ops (suc (cond b 1 0)) (entry n s q i j)) (ne_eqb i j ne) ∙ Sums.zero_add s.ops laws.ring (entry n s q i j)
 
   -- after the square of x(i) is completed there is no product with x(i)
-  pub completed : HasInverses s → (q : Squares n V) → IsSound q → (i j : ℕ) → i < n → j < n → Has q.opened i → partial q.form i i ≢ s.ops.zero → j ≢ i → partial (carry n s 2 (completing n s i q) q.form) i j ≡ s.ops.zero
+  pub completed : HasInverses s → (q : Squares n V) → IsSound n s q → (i j : ℕ) → i < n → j < n → Has q.opened i → partial n s q.form i i ≢ s.ops.zero → j ≢ i → partial n s (carry n s 2 (completing n s i q) q.form) i j ≡ s.ops.zero
   completed inverts q sound i j hi hj here unit ne =
       after_shear i hi (row_of q i) (completing n s i q) (completing_is q sound i hi) q.form sound.low i j hi hj
       ∙ ap (λ z. s.ops.add (s.ops.add S (s.ops.mul D (row_of q i j))) (s.ops.mul (s.ops.add S (s.ops.mul D (row_of q i j))) z)) (row_own q sound i hi)
@@ -222,10 +205,10 @@ module _ {V : Type 0} (n : ℕ) (s : Scalars V) (laws : ScalarLaws s) where
       ∙ cases (sound.covers j hj)
     where
       S : V
-      S = partial q.form i j
+      S = partial n s q.form i j
 
       D : V
-      D = partial q.form i i
+      D = partial n s q.form i i
 
       cases : Has q.opened j ⊎ Has q.closed j → s.ops.add S (s.ops.mul D (row_of q i j)) ≡ s.ops.zero
       cases (inl h) =
@@ -239,7 +222,7 @@ module _ {V : Type 0} (n : ℕ) (s : Scalars V) (laws : ScalarLaws s) where
           ∙ ap (s.ops.add s.ops.zero) (Sums.mul_zero s.ops laws.ring D) ∙ laws.ring.add_zero s.ops.zero
 
   -- and its square stays
-  pub square_stays : (q : Squares n V) → IsSound q → (i : ℕ) → i < n → partial (carry n s 2 (completing n s i q) q.form) i i ≡ partial q.form i i
+  pub square_stays : (q : Squares n V) → IsSound n s q → (i : ℕ) → i < n → partial n s (carry n s 2 (completing n s i q) q.form) i i ≡ partial n s q.form i i
   square_stays q sound i hi =
       after_shear i hi (row_of q i) (completing n s i q) (completing_is q sound i hi) q.form sound.low i i hi hi
       ∙ ap (λ z. s.ops.add (s.ops.add D (s.ops.mul D z)) (s.ops.mul (s.ops.add D (s.ops.mul D z)) z)) (row_own q sound i hi)
@@ -247,10 +230,10 @@ module _ {V : Type 0} (n : ℕ) (s : Scalars V) (laws : ScalarLaws s) where
       ∙ laws.ring.add_zero D
     where
       D : V
-      D = partial q.form i i
+      D = partial n s q.form i i
 
   -- closing one more variable keeps all this
-  pub close_sound : HasInverses s → (q : Squares n V) → IsSound q → (i : ℕ) → Has q.opened i → partial q.form i i ≢ s.ops.zero → IsSound (close n s i q)
+  pub close_sound : HasInverses s → (q : Squares n V) → IsSound n s q → (i : ℕ) → Has q.opened i → partial n s q.form i i ≢ s.ops.zero → IsSound n s (close n s i q)
   close_sound inverts q sound i here unit = record {
     opened_inside = NumberLists.each-without i (λ j. j < n) q.opened sound.opened_inside;
     closed_inside = each-append (λ j. j < n) q.closed (i ∷ []) sound.closed_inside (hi, tt);
@@ -262,11 +245,11 @@ module _ {V : Type 0} (n : ℕ) (s : Scalars V) (laws : ScalarLaws s) where
     low = carried_low (λ a b. s.ops.add (unit_at s.ops a b) (cond (eqb a i) (row_of q i b) s.ops.zero)) (completing n s i q) (completing_is q sound i hi) q.form sound.low;
     products = λ a j h hj ne. elim (NumberLists.has-append q.closed (i ∷ []) a h) [
       | inl k ↦ kept a j k hj ∙ sound.products a j k hj ne
-      | inr k ↦ elim k [ inl e ↦ subst (λ z. partial (carry n s 2 (completing n s i q) q.form) z j ≡ s.ops.zero) e (completed inverts q sound i j hi hj here unit (λ z. ne (sym e ∙ sym z))) | inr z ↦ absurd z ]
+      | inr k ↦ elim k [ inl e ↦ subst (λ z. partial n s (carry n s 2 (completing n s i q) q.form) z j ≡ s.ops.zero) e (completed inverts q sound i j hi hj here unit (λ z. ne (sym e ∙ sym z))) | inr z ↦ absurd z ]
     ];
     squares = λ a h z. elim (NumberLists.has-append q.closed (i ∷ []) a h) [
       | inl k ↦ sound.squares a k (sym (kept a a k (NumberLists.each-has (λ j. j < n) q.closed a sound.closed_inside k)) ∙ z)
-      | inr k ↦ elim k [ inl e ↦ unit (sym (square_stays q sound i hi) ∙ subst (λ y. partial (carry n s 2 (completing n s i q) q.form) y y ≡ s.ops.zero) (sym e) z) | inr y ↦ absurd y ]
+      | inr k ↦ elim k [ inl e ↦ unit (sym (square_stays q sound i hi) ∙ subst (λ y. partial n s (carry n s 2 (completing n s i q) q.form) y y ≡ s.ops.zero) (sym e) z) | inr y ↦ absurd y ]
     ];
   }
     where
@@ -276,7 +259,7 @@ module _ {V : Type 0} (n : ℕ) (s : Scalars V) (laws : ScalarLaws s) where
       other : (a : ℕ) → Has q.closed a → a ≢ i
       other a h e = sound.apart i here (subst (Has q.closed) e h)
 
-      kept : (a j : ℕ) → Has q.closed a → j < n → partial (carry n s 2 (completing n s i q) q.form) a j ≡ partial q.form a j
+      kept : (a j : ℕ) → Has q.closed a → j < n → partial n s (carry n s 2 (completing n s i q) q.form) a j ≡ partial n s q.form a j
       kept a j h hj =
           let ha = NumberLists.each-has (λ j. j < n) q.closed a sound.closed_inside h in
           unchanged i hi (row_of q i) (completing n s i q) (completing_is q sound i hi) q.form sound.low a j ha hj
@@ -290,7 +273,7 @@ module _ {V : Type 0} (n : ℕ) (s : Scalars V) (laws : ScalarLaws s) where
   -- ---- mixing two variables
 
   -- mixing is the identity but for one row
-  pub mixing_is : (i j : ℕ) → i < n → j < n → LinearMoves.IsLinear n s laws (λ a b. s.ops.add (unit_at s.ops a b) (cond (eqb a j) (unit_at s.ops i b) s.ops.zero)) (mixing n s (i, j))
+  pub mixing_is : (i j : ℕ) → i < n → j < n → IsLinear n s (λ a b. s.ops.add (unit_at s.ops a b) (cond (eqb a j) (unit_at s.ops i b) s.ops.zero)) (mixing n s (i, j))
   mixing_is i j hi hj = LinearMoves.one_more n s laws j hj (variable_of n s i) (ExpLaws.degree-variable (exps n) (exps_are n) i hi, tt) (unit_at s.ops i) (λ b h. LinearMoves.variable_at n s laws i b hi h)
 
   -- the identity matrix is 0 elsewhere
@@ -298,7 +281,7 @@ module _ {V : Type 0} (n : ℕ) (s : Scalars V) (laws : ScalarLaws s) where
   unit_other i b ne = ap (λ t. cond t s.ops.one s.ops.zero) (ne_eqb i b ne)
 
   -- mixing two open variables keeps all this
-  pub mixed_sound : (q : Squares n V) → IsSound q → (i j : ℕ) → Has q.opened i → Has q.opened j → IsSound (moved n s (mixing n s (i, j)) q)
+  pub mixed_sound : (q : Squares n V) → IsSound n s q → (i j : ℕ) → Has q.opened i → Has q.opened j → IsSound n s (moved n s (mixing n s (i, j)) q)
   mixed_sound q sound i j here there = record {
     opened_inside = sound.opened_inside;
     closed_inside = sound.closed_inside;
@@ -318,14 +301,14 @@ module _ {V : Type 0} (n : ℕ) (s : Scalars V) (laws : ScalarLaws s) where
       hj : j < n
       hj = NumberLists.each-has (λ j. j < n) q.opened j sound.opened_inside there
 
-      kept : (a b : ℕ) → Has q.closed a → b < n → partial (carry n s 2 (mixing n s (i, j)) q.form) a b ≡ partial q.form a b
+      kept : (a b : ℕ) → Has q.closed a → b < n → partial n s (carry n s 2 (mixing n s (i, j)) q.form) a b ≡ partial n s q.form a b
       kept a b h hb =
           unchanged j hj (unit_at s.ops i) (mixing n s (i, j)) (mixing_is i j hi hj) q.form sound.low a b (NumberLists.each-has (λ j. j < n) q.closed a sound.closed_inside h) hb
           (unit_other i a (λ e. sound.apart a (subst (Has q.opened) e here) h)) (sound.products a j h hj (λ e. sound.apart j there (subst (Has q.closed) e h)))
 
   -- x(i) has a square after it was mixed in, where neither variable has one and their product stands there
-  pub mixed_square : (q : Squares n V) → IsSound q → (i j : ℕ) → Has q.opened i → Has q.opened j → i ≢ j → partial q.form i i ≡ s.ops.zero → partial q.form j j ≡ s.ops.zero → partial q.form i j ≢ s.ops.zero
-      → partial (carry n s 2 (mixing n s (i, j)) q.form) i i ≢ s.ops.zero
+  pub mixed_square : (q : Squares n V) → IsSound n s q → (i j : ℕ) → Has q.opened i → Has q.opened j → i ≢ j → partial n s q.form i i ≡ s.ops.zero → partial n s q.form j j ≡ s.ops.zero → partial n s q.form i j ≢ s.ops.zero
+      → partial n s (carry n s 2 (mixing n s (i, j)) q.form) i i ≢ s.ops.zero
   mixed_square q sound i j here there ne none_i none_j product z =
       product (zero_from_double s laws B (whole-mul s laws 2 B ∙ ap (λ y. s.ops.add y B) (Sums.zero_add s.ops laws.ring B) ∙ sym value ∙ z))
     where
@@ -336,12 +319,12 @@ module _ {V : Type 0} (n : ℕ) (s : Scalars V) (laws : ScalarLaws s) where
       hj = NumberLists.each-has (λ j. j < n) q.opened j sound.opened_inside there
 
       B : V
-      B = partial q.form i j
+      B = partial n s q.form i j
 
       one : unit_at s.ops i i ≡ s.ops.one
       one = ap (λ t. cond t s.ops.one s.ops.zero) (eq-eqb i i refl)
 
-      value : partial (carry n s 2 (mixing n s (i, j)) q.form) i i ≡ s.ops.add B B
+      value : partial n s (carry n s 2 (mixing n s (i, j)) q.form) i i ≡ s.ops.add B B
       value =
           after_shear j hj (unit_at s.ops i) (mixing n s (i, j)) (mixing_is i j hi hj) q.form sound.low i i hi hi
           ∙ ap₂ s.ops.add (ap₂ s.ops.add none_i (ap (s.ops.mul B) one ∙ laws.ring.mul_one B) ∙ Sums.zero_add s.ops laws.ring B)

@@ -18,12 +18,10 @@ use Rattle.move_law.specs.Hessian.{Squares, pairs, started, moved, entry, has_en
 use Rattle.split_lemma.proofs.Halves.{zero_from_double}
 use Rattle.hessian_rank.specs.Diagonals.{IsSumOfSquares, IsDiagonalised}
 use Rattle.hessian_rank.proofs.NumberLists
-use Rattle.hessian_rank.proofs.NumberLists.{Has, Distinct}
+use Rattle.hessian_rank.specs.Sound.{Has, Distinct, IsLinear, partial, IsSound}
 use Rattle.hessian_rank.proofs.PairExponents
 use Rattle.hessian_rank.proofs.LinearMoves
-use Rattle.hessian_rank.proofs.LinearMoves.{IsLinear}
 use Rattle.hessian_rank.proofs.SquareSteps
-use Rattle.hessian_rank.proofs.SquareSteps.{IsSound, partial}
 use Rattle.hessian_rank.proofs.ReachedForms
 use Rattle.hessian_rank.proofs.ReachedForms.{Reaches}
 
@@ -36,36 +34,36 @@ module _ {V : Type 0} (n : ℕ) (s : Scalars V) (laws : ScalarLaws s) (inverts :
   zero_where false v e h = let bad : true ≡ false = h in absurd (cc bad)
 
   -- a number that the test does not call zero is not
-  not_where : (v : V) → not (s.is_zero v) ≡ true → v ≢ s.ops.zero
+  pub not_where : (v : V) → not (s.is_zero v) ≡ true → v ≢ s.ops.zero
   not_where v h z = let bad : false ≡ true = sym (ap not ((laws.zero_test v).1 z)) ∙ h in absurd (cc bad)
 
   -- what the tests on a square and on a product say
-  square_there : (q : Squares n V) (i : ℕ) → i < n → has_entry n s q i i ≡ true → partial n s laws q.form i i ≢ s.ops.zero
+  square_there : (q : Squares n V) (i : ℕ) → i < n → has_entry n s q i i ≡ true → partial n s q.form i i ≢ s.ops.zero
   square_there q i hi h z = not_where (entry n s q i i) h (zero_from_double s laws (entry n s q i i) (sym (SquareSteps.own_partial n s laws q i hi) ∙ z))
 
   -- a square that is not there
-  square_gone : (q : Squares n V) (i : ℕ) → i < n → has_entry n s q i i ≡ false → partial n s laws q.form i i ≡ s.ops.zero
+  pub square_gone : (q : Squares n V) (i : ℕ) → i < n → has_entry n s q i i ≡ false → partial n s q.form i i ≡ s.ops.zero
   square_gone q i hi h =
       SquareSteps.own_partial n s laws q i hi ∙ ap (s.ops.mul (whole s 2)) (zero_where (s.is_zero (entry n s q i i)) (entry n s q i i) refl h)
       ∙ Sums.mul_zero s.ops laws.ring (whole s 2)
 
   -- a product that is there
-  product_there : (q : Squares n V) (i j : ℕ) → i < n → j < n → i ≢ j → has_entry n s q i j ≡ true → partial n s laws q.form i j ≢ s.ops.zero
+  pub product_there : (q : Squares n V) (i j : ℕ) → i < n → j < n → i ≢ j → has_entry n s q i j ≡ true → partial n s q.form i j ≢ s.ops.zero
   product_there q i j hi hj ne h z = not_where (entry n s q i j) h (sym (SquareSteps.other_partial n s laws q i j hi hj ne) ∙ z)
 
   -- a product that is not there
-  product_gone : (q : Squares n V) (i j : ℕ) → i < n → j < n → i ≢ j → has_entry n s q i j ≡ false → partial n s laws q.form i j ≡ s.ops.zero
+  product_gone : (q : Squares n V) (i j : ℕ) → i < n → j < n → i ≢ j → has_entry n s q i j ≡ false → partial n s q.form i j ≡ s.ops.zero
   product_gone q i j hi hj ne h = SquareSteps.other_partial n s laws q i j hi hj ne ∙ zero_where (s.is_zero (entry n s q i j)) (entry n s q i j) refl h
 
   -- ---- one step
 
   -- no terms are left in the open variables
   pub IsDone : Squares n V → Type 0
-  IsDone q = (i j : ℕ) → Has q.opened i → Has q.opened j → partial n s laws q.form i j ≡ s.ops.zero
+  IsDone q = (i j : ℕ) → Has q.opened i → Has q.opened j → partial n s q.form i j ≡ s.ops.zero
 
   -- what the next step leaves: one open variable less, or all as it was, with nothing left to do
   pub record IsNext (q next : Squares n V) : Type 0 where
-    pub sound : IsSound n s laws next
+    pub sound : IsSound n s next
     pub progress : (suc (length next.opened) ≡ length q.opened) ⊎ ((next ≡ q) × IsDone q)
     pub reaches : (f : Polynomial n V) → Reaches n s laws f q.change q.form → Reaches n s laws f next.change next.form
 
@@ -78,12 +76,12 @@ module _ {V : Type 0} (n : ℕ) (s : Scalars V) (laws : ScalarLaws s) (inverts :
   chosen q o = elim o [ Some i ↦ close n s i q | None ↦ chosen_pair q (first (λ p. has_entry n s q p.0 p.1) (pairs q.opened)) ]
 
   -- completing a square reaches the next terms
-  completed_reaches : (q : Squares n V) → IsSound n s laws q → (i : ℕ) → i < n → (f : Polynomial n V) → Reaches n s laws f q.change q.form
+  completed_reaches : (q : Squares n V) → IsSound n s q → (i : ℕ) → i < n → (f : Polynomial n V) → Reaches n s laws f q.change q.form
       → Reaches n s laws f (compose n s 16 q.change (completing n s i q)) (carry n s 2 (completing n s i q) q.form)
   completed_reaches q sound i hi f r =
       ReachedForms.moved_reaches n s laws (λ a b. s.ops.add (unit_at s.ops a b) (cond (eqb a i) (SquareSteps.row_of n s laws q i b) s.ops.zero)) (completing n s i q) (SquareSteps.completing_is n s laws q sound i hi) f q.change q.form r
 
-  module _ (q : Squares n V) (sound : IsSound n s laws q) where
+  module _ (q : Squares n V) (sound : IsSound n s q) where
     -- open variables are below n
     inside : (i : ℕ) → Has q.opened i → i < n
     inside i h = NumberLists.each-has (λ i. i < n) q.opened i sound.opened_inside h
@@ -115,7 +113,7 @@ module _ {V : Type 0} (n : ℕ) (s : Scalars V) (laws : ScalarLaws s) (inverts :
           (ReachedForms.moved_reaches n s laws (λ a b. s.ops.add (unit_at s.ops a b) (cond (eqb a p.1) (unit_at s.ops p.0 b) s.ops.zero)) (mixing n s p) (SquareSteps.mixing_is n s laws p.0 p.1 (inside p.0 is.0) (inside p.1 is.1)) f q.change q.form r);
     }
       where
-        gone : (i : ℕ) → Has q.opened i → partial n s laws q.form i i ≡ s.ops.zero
+        gone : (i : ℕ) → Has q.opened i → partial n s q.form i i ≡ s.ops.zero
         gone i h = square_gone q i (inside i h) (NumberLists.each-has (λ i. has_entry n s q i i ≡ false) q.opened i none h)
 
     -- where there is neither a square nor a product, all is done
@@ -126,8 +124,8 @@ module _ {V : Type 0} (n : ℕ) (s : Scalars V) (laws : ScalarLaws s) (inverts :
         bad : {i j : ℕ} → eqb i j ≡ false → i ≡ j → ⊥
         bad {i} {j} e z = let w : false ≡ true = sym e ∙ eq-eqb i j z in cc w
 
-        step : (b : Bool) → eqb i j ≡ b → partial n s laws q.form i j ≡ s.ops.zero
-        step true e = subst (λ z. partial n s laws q.form i z ≡ s.ops.zero) (eqb-true i j e) (square_gone q i (inside i h) (NumberLists.each-has (λ i. has_entry n s q i i ≡ false) q.opened i none h))
+        step : (b : Bool) → eqb i j ≡ b → partial n s q.form i j ≡ s.ops.zero
+        step true e = subst (λ z. partial n s q.form i z ≡ s.ops.zero) (eqb-true i j e) (square_gone q i (inside i h) (NumberLists.each-has (λ i. has_entry n s q i i ≡ false) q.opened i none h))
         step false e = elim (SquareSteps.pair-has (λ p. has_entry n s q p.0 p.1 ≡ false) q.opened no_pair i j h g (bad e)) [
           | inl w ↦ product_gone q i j (inside i h) (inside j g) (bad e) w
           | inr w ↦ PairExponents.second_symmetric n s laws q.form i j (inside i h) (inside j g) ∙ product_gone q j i (inside j g) (inside i h) (λ z. bad e (sym z)) w
@@ -153,12 +151,12 @@ module _ {V : Type 0} (n : ℕ) (s : Scalars V) (laws : ScalarLaws s) (inverts :
   stays (suc k) q e = ap (squares_after n s k) e ∙ stays k q e
 
   -- k steps reach the terms that they have
-  pub all_reach : (k : ℕ) (q : Squares n V) → IsSound n s laws q → (f : Polynomial n V) → Reaches n s laws f q.change q.form → Reaches n s laws f (squares_after n s k q).change (squares_after n s k q).form
+  pub all_reach : (k : ℕ) (q : Squares n V) → IsSound n s q → (f : Polynomial n V) → Reaches n s laws f q.change q.form → Reaches n s laws f (squares_after n s k q).change (squares_after n s k q).form
   all_reach zero q sound f r = r
   all_reach (suc k) q sound f r = let next = next_is q sound in all_reach k (next_square n s q) next.sound f (next.reaches f r)
 
   -- as many steps as there are open variables leave nothing to do
-  pub all_done : (k : ℕ) (q : Squares n V) → IsSound n s laws q → length q.opened ≤ k → IsSound n s laws (squares_after n s k q) × IsDone (squares_after n s k q)
+  pub all_done : (k : ℕ) (q : Squares n V) → IsSound n s q → length q.opened ≤ k → IsSound n s (squares_after n s k q) × IsDone (squares_after n s k q)
   unfolding IsDone
   all_done zero q sound few = (sound, λ i j h g. let w = NumberLists.has-place q.opened i h in absurd (let l = w.1 in omega arith))
   all_done (suc k) q sound few =
@@ -167,11 +165,11 @@ module _ {V : Type 0} (n : ℕ) (s : Scalars V) (laws : ScalarLaws s) (inverts :
         | inl e ↦ all_done k (next_square n s q) next.sound (omega arith)
         | inr w ↦
             let same : squares_after n s k (next_square n s q) ≡ q = ap (squares_after n s k) w.0 ∙ stays k q w.0 in
-            (subst (IsSound n s laws) (sym same) sound, subst IsDone (sym same) w.1)
+            (subst (IsSound n s) (sym same) sound, subst IsDone (sym same) w.1)
       ]
 
   -- at the start all variables are open
-  pub start_sound : (f : Polynomial n V) → StartsAt (exps n) s.ops 2 f → IsSound n s laws (started n s f)
+  pub start_sound : (f : Polynomial n V) → StartsAt (exps n) s.ops 2 f → IsSound n s (started n s f)
   start_sound f two = record {
     opened_inside = numbers_are_below n;
     closed_inside = tt;
@@ -187,7 +185,7 @@ module _ {V : Type 0} (n : ℕ) (s : Scalars V) (laws : ScalarLaws s) (inverts :
 
   -- ---- the last move
 
-  module _ (q : Squares n V) (sound : IsSound n s laws q) where
+  module _ (q : Squares n V) (sound : IsSound n s q) where
     -- the variable that becomes x(k)
     abbrev pub place_of : ℕ → ℕ
     place_of k = get_or (q.opened ++ q.closed) k 0
@@ -221,7 +219,7 @@ module _ {V : Type 0} (n : ℕ) (s : Scalars V) (laws : ScalarLaws s) (inverts :
         (w.0, (let g = w.1 in let l = order_long in omega arith), w.2)
 
     -- the last move is a permutation
-    pub permuting_is : IsLinear n s laws (λ a b. unit_at s.ops a (place_of b)) (permuting n s (q.opened ++ q.closed))
+    pub permuting_is : IsLinear n s (λ a b. unit_at s.ops a (place_of b)) (permuting n s (q.opened ++ q.closed))
     permuting_is = LinearMoves.places n s laws place_of place_different place_onto
 
     -- the first variables were open
@@ -245,7 +243,7 @@ module _ {V : Type 0} (n : ℕ) (s : Scalars V) (laws : ScalarLaws s) (inverts :
       agrees = ReachedForms.last_move n s laws (λ a b. unit_at s.ops a (place_of b)) (permuting n s (q.opened ++ q.closed)) permuting_is f q.change q.form reach
 
       -- its second partials are those before, at the places
-      result_partial : (i j : ℕ) → i < n → j < n → partial n s laws result i j ≡ partial n s laws q.form (place_of i) (place_of j)
+      result_partial : (i j : ℕ) → i < n → j < n → partial n s result i j ≡ partial n s q.form (place_of i) (place_of j)
       result_partial i j hi hj =
           SquareSteps.partial_same n s laws result (carry n s 2 (permuting n s (q.opened ++ q.closed)) q.form) agrees i j hi hj
           ∙ SquareSteps.after_places n s laws place_of place_inside (permuting n s (q.opened ++ q.closed)) permuting_is q.form sound.low i j hi hj
@@ -255,11 +253,11 @@ module _ {V : Type 0} (n : ℕ) (s : Scalars V) (laws : ScalarLaws s) (inverts :
       last = record { opened = []; closed = []; change = []; form = result }
 
       -- its products of different variables
-      result_product : (i j : ℕ) → i < n → j < n → i ≢ j → at n s result (pair_exponents n i j) ≡ partial n s laws q.form (place_of i) (place_of j)
+      result_product : (i j : ℕ) → i < n → j < n → i ≢ j → at n s result (pair_exponents n i j) ≡ partial n s q.form (place_of i) (place_of j)
       result_product i j hi hj ne = sym (SquareSteps.other_partial n s laws last i j hi hj ne) ∙ result_partial i j hi hj
 
       -- twice its squares
-      result_double : (i : ℕ) → i < n → s.ops.mul (whole s 2) (at n s result (pair_exponents n i i)) ≡ partial n s laws q.form (place_of i) (place_of i)
+      result_double : (i : ℕ) → i < n → s.ops.mul (whole s 2) (at n s result (pair_exponents n i i)) ≡ partial n s q.form (place_of i) (place_of i)
       result_double i hi = sym (SquareSteps.own_partial n s laws last i hi) ∙ result_partial i i hi hi
 
       -- numbers with the same double are the same
@@ -283,7 +281,7 @@ module _ {V : Type 0} (n : ℕ) (s : Scalars V) (laws : ScalarLaws s) (inverts :
           where_is : (k c : ℕ) → (k < c) ⊎ (c ≤ k)
           where_is k c = grind arith
 
-          none : (i j : ℕ) → i < n → j < n → i ≢ j → partial n s laws q.form (place_of i) (place_of j) ≡ s.ops.zero
+          none : (i j : ℕ) → i < n → j < n → i ≢ j → partial n s q.form (place_of i) (place_of j) ≡ s.ops.zero
           none i j hi hj ne = elim (where_is i (length q.opened)) [
             | inr h ↦ sound.products (place_of i) (place_of j) (place_closed i h hi) (place_inside j hj) (λ e. ne (place_different i j hi hj e))
             | inl h ↦ elim (where_is j (length q.opened)) [
@@ -306,7 +304,7 @@ module _ {V : Type 0} (n : ℕ) (s : Scalars V) (laws : ScalarLaws s) (inverts :
               let c = sound.count in
               let hk : length q.opened + k < n = omega arith in
               cancelled (at n s result (pair_exponents n (length q.opened + k) (length q.opened + k))) (entry n s q (get_or q.closed k 0) (get_or q.closed k 0))
-              (result_double (length q.opened + k) hk ∙ ap (λ z. partial n s laws q.form z z) (NumberLists.place-right q.opened q.closed (length q.opened + k) k refl)
+              (result_double (length q.opened + k) hk ∙ ap (λ z. partial n s q.form z z) (NumberLists.place-right q.opened q.closed (length q.opened + k) k refl)
               ∙ SquareSteps.own_partial n s laws q (get_or q.closed k 0) (NumberLists.each-has (λ i. i < n) q.closed (get_or q.closed k 0) sound.closed_inside (NumberLists.place-has q.closed k (omega arith))))
 
   -- the move of the Hessian makes a sum of squares

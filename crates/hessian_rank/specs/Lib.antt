@@ -1,1 +1,4 @@
+pub mod Sound
 pub mod Diagonals
+pub mod Stages
+pub mod Answers
