@@ -1,8 +1,8 @@
--- Carrying by moves: one degree further changes nothing below, and one move more is one substitution more.
+-- Carrying by moves: one degree further changes nothing below.
 use mathlib.Core.Path.{fun_ext}
 use Rattle.std.proofs.Common.{◌≡◌, ℕ, zero, suc, Bool, true, false, cond, leb, ◌+◌, ◌<◌, ◌≤◌, inl, inr, List, [], ◌∷◌, ◌++◌, map, length, get_or, take, refl, sym, ap, ◌∙◌, subst, arith}
 use Rattle.std.specs.List.{AllByRecursion}
-use Rattle.ring_theory.specs.Scalars.{Scalars, ScalarLaws}
+use Rattle.ring_theory.specs.Scalars.{Scalars, ScalarLaws, Meaning}
 use Rattle.ring_theory.proofs.ValueSet.{values_are_set}
 use Rattle.poly_law.specs.Exps.{degree}
 use Rattle.poly_law.specs.ExpList.{exps}
@@ -15,7 +15,9 @@ use Rattle.germ_law.proofs.Canonical
 use Rattle.jet_subst.specs.Substitutions.{IsSubstHigh, IsMultipleHigh}
 use Rattle.coord_change.specs.Moves.{Move, put}
 use Rattle.coord_change.specs.Carries.{carry, carry_all}
-use Rattle.coord_change.specs.CarryHeights.{IsCarryHigh, IsCarryAllHigh}
+use Rattle.coord_change.specs.declared.change.Change.{Change}
+use Rattle.coord_change.specs.Chains.{AreMoves}
+use Rattle.coord_change.proofs.CompositeLemmas.{no_constant}
 
 module _ {V : Type 0} (n : ℕ) (s : Scalars V) (l : ScalarLaws s) where
   pub carry_is : (k : ℕ) (m : Move n V) (f : Polynomial n V) → SameIn n s.ops (carry n s k m f) (cut_in n s.ops k (substitute n n s.ops (put n s m) f))
@@ -41,19 +43,6 @@ module _ {V : Type 0} (n : ℕ) (s : Scalars V) (l : ScalarLaws s) where
 
   pub jets_same : (o k : ℕ) → o ≤ k → (g : Polynomial n V) → SameToIn n s.ops o (jet n s k g) (jet n s o g)
   jets_same o k le g a d = Canonical.jet_same_to n s l k g a (omega arith) ∙ sym (Canonical.jet_same_to n s l o g a d)
-
-  -- one move more
-  pub carry_all-next : (k i : ℕ) (ms : List (Move n V)) (mv : Move n V) → i < length ms → mv ≡ get_or ms i mv → (f : Polynomial n V)
-      → carry_all n s k (take (suc i) ms) f ≡ carry n s k mv (carry_all n s k (take i ms) f)
-  carry_all-next k i [] mv h e f = absurd (omega arith)
-  carry_all-next k zero (m ∷ ms) mv h e f = ap (λ z. carry n s k z f) (sym e)
-  carry_all-next k (suc i) (m ∷ ms) mv h e f = carry_all-next k i ms mv (omega arith) e (carry n s k m f)
-
-  -- a substitution on the way is high
-  pub high_at : (k i : ℕ) (ms : List (Move n V)) (mv : Move n V) → i < length ms → mv ≡ get_or ms i mv → (f : Polynomial n V) → IsCarryHigh n s k mv (carry_all n s k (take i ms) f) → IsCarryAllHigh n s k ms f
-  high_at k i [] mv h e f high = absurd (omega arith)
-  high_at k zero (m ∷ ms) mv h e f high = inl (subst (λ z. IsCarryHigh n s k z f) e high)
-  high_at k (suc i) (m ∷ ms) mv h e f high = inr (high_at k i ms mv (omega arith) e (carry n s k m f) high)
 
   -- of equal polynomials
   pub high_same : (k : ℕ) (parts : ℕ → Polynomial n V) (f g : Polynomial n V) → SameIn n s.ops f g → IsSubstHigh (exps n) (exps n) s k parts f → IsSubstHigh (exps n) (exps n) s k parts g
@@ -90,3 +79,13 @@ module _ {V : Type 0} (n : ℕ) (s : Scalars V) (l : ScalarLaws s) where
   pub carried_cut : (k : ℕ) (ms : List (Move n V)) (f : Polynomial n V) → SameIn n s.ops (cut_in n s.ops k f) f → SameIn n s.ops (cut_in n s.ops k (carry_all n s k ms f)) (carry_all n s k ms f)
   carried_cut k [] f h = h
   carried_cut k (m ∷ ms) f h = carried_cut k ms (carry n s k m f) (carry_cut k m f)
+
+-- what the first moves of a chain put has no constant terms
+pub no_constants : {E V : Type 0} (m : Meaning E V) (n last : ℕ) (ms : List (Move n V)) (cs : List (Change E)) → AreMoves m n last ms cs → (i : ℕ) → AllByRecursion (λ mv. HaveNoConstant n m.scalars.ops n (put n m.scalars mv)) (take i ms)
+no_constants m n last ms cs a zero = tt
+no_constants m n last [] cs a (suc i) = tt
+no_constants m n last (mv ∷ ms) [] a (suc i) = absurd a
+no_constants m n last (mv ∷ ms) (c ∷ cs) a (suc i) = (
+  subst (λ w. HaveNoConstant n m.scalars.ops n (put n m.scalars w)) a.0.exactly.parts (no_constant m n c a.0.exactly.change a.0.exactly.variables),
+  no_constants m n last ms cs a.1 i,
+)
