@@ -1,1 +1,4 @@
+pub mod Divisors
+pub mod Moves
+pub mod Steps
 pub mod Terms

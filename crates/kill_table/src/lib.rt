@@ -1,6 +1,12 @@
-//! Sums of terms in the monomial order, by which the kill moves reduce.
+//! The kill moves of principal parts: each monomial of a grade is reduced by the leads of the part,
+//! and what the reduction takes from the variables is a change of coordinates.
 #![tactic(auto)]
 
+mod moves;
+mod principal;
+mod reduction;
 mod sum;
 
-pub use sum::add_term;
+pub use kill_law::Part;
+pub use kill_leads::grading;
+pub use principal::{Principal, kill, kill_at};
