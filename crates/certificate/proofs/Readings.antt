@@ -489,3 +489,11 @@ module _ (family : Family) (c : Carried) (w : IsWellFormedCarried c) where
       subst (λ b. Among (IsWorkHigh n (scalars c.algebra)) (cond b (work.units (kind_of family) (map (at n (scalars c.algebra) (jet_of c)) (sum_of family)) ∷ []) [])) (sym (form_has q is))
       (inl (subst (λ xs. IsHigh (unit_heights (scalars c.algebra) (kind_of family) xs)) (sym (coefficients_are c.algebra n few c.jet.terms inside family (subst (λ k. k ≤ n) is.corank w.corank)
       ∙ ap (λ k. coefficients_in_sum (algebra_meaning c.algebra) family k c.jet.terms) (sym is.corank))) high))
+
+  -- the units of a jet that is read are not 0
+  pub read_units : is_read_as family c ≡ true → list_all (λ u. not ((scalars c.algebra).is_zero u)) (units_in family c) ≡ true
+  read_units h = (read_tests h).1
+
+  -- the coefficients of its sum
+  pub coefficients_of_form : corank_of family ≤ n → map (at n (scalars c.algebra) (jet_of c)) (sum_of family) ≡ coefficients_in_sum (algebra_meaning c.algebra) family (corank_of family) c.jet.terms
+  coefficients_of_form h = coefficients_are c.algebra n few c.jet.terms inside family h

@@ -1,2 +1,3 @@
 pub mod Evidence
 pub mod Readings
+pub mod Moduli

@@ -2,7 +2,9 @@
 #![tactic(auto)]
 
 mod evidence;
+mod modulus;
 mod unit;
 
 pub use evidence::{milnor_algebra, test};
+pub use modulus::modulus_line;
 pub use unit::units;
