@@ -1,13 +1,14 @@
 //! Jets over a field: sums, products, derivatives, truncations, substitutions.
 
-ghost use Rattle.std.specs.Prelude.{◌≡◌};
+ghost use Rattle.std.specs.Prelude.{◌≡◌, ◌<◌, ◌≤◌, length, IfOk};
+ghost use Rattle.jet_subst.specs.KeptPowers.{IsKept};
 ghost use Rattle.probe.specs.Over.{IsOver};
 
 use crate::scalars::Over;
 use crate::words::{Stop, Words, is};
 use ext_algebra::Ext;
 use jet_poly::{Jet, add, coef, cut, derivative, from_terms, mul_cut, part, scale};
-use jet_subst::{keep, powers, product, subst};
+use jet_subst::{Kept, keep, powers, product, subst};
 use kill_table::add_term;
 use poly_text::{new_names, put_element, put_monomial, put_polynomial};
 use ring_law::{Field, Frac};
@@ -47,6 +48,24 @@ fn substituted<F: Field<Elem = Ext<Frac>> + Drop>(
     Ok(subst(alloc, &over.field, &f, &parts, over.order)?)
 }
 
+// The products of powers of the jets in m variables that the next words spell; none is formed yet.
+fn kept_of<F: Field<Elem = Ext<Frac>> + Drop>(
+    alloc: Global,
+    over: &Over<F>,
+    words: &mut Words,
+    m: u8,
+) -> Result<Kept<Ext<Frac>>, Stop>
+    requires over { IsOver (F.is_ring over.now.field) (F.meaning over.now.field) over.now.algebra over.now.n over.now.order }
+    requires given { 0 < over.now.n }
+    requires at_most_8_variables { m ≤ 8 }
+    ensures kept { IfOk result (IsKept (F.meaning over.now.field)) }
+    ensures count { IfOk result (λ c. length c.parts ≡ over.now.n) }
+    ensures order { IfOk result (λ c. c.order ≡ over.now.order) }
+{
+    let parts = over.parts(alloc, words, m)?;
+    Ok(keep(alloc, &over.field, &parts, over.order)?)
+}
+
 // The product of powers of jets in as many variables as the next word says, with the exponents of a monomial.
 fn kept_product<F: Field<Elem = Ext<Frac>> + Drop>(
     alloc: Global,
@@ -60,11 +79,10 @@ fn kept_product<F: Field<Elem = Ext<Frac>> + Drop>(
         return Err(Stop::Words);
     }
     let monomial = over.jet(alloc, words)?;
-    let parts = over.parts(alloc, words, m)?;
+    let mut kept = kept_of(alloc, over, words, m)?;
     let Some(t) = monomial.terms().first() else {
         return Err(Stop::Words);
     };
-    let mut kept = keep(alloc, &over.field, &parts, over.order)?;
     Ok(product(&mut kept, alloc, &over.field, t.0)?)
 }
 

@@ -276,8 +276,8 @@ fn put_tower(
     requires { IsAlgebra algebra }
 {
     let base = AlgebraRing { algebra };
-    let zero = base.zero();
-    let minus_three = base.neg(base.inject(Frac { num: 3, den: 1 }));
+    let (zero, one) = (base.zero(), base.one());
+    let minus_three = base.neg(base.add(one, base.add(one, one)?)?);
     let ring = ExtRing::cubic(base, zero, zero, minus_three);
     let a = ring.element(triple_of(algebra, words)?);
     let b = ring.element(triple_of(algebra, words)?);
