@@ -1,6 +1,6 @@
 //! Changes of coordinates over a field, and the matrices of their linear parts.
 
-ghost use Rattle.std.specs.Prelude.{◌≡◌, ◌<◌, ◌≤◌, true, length, All, IfOk, IfSome};
+ghost use Rattle.std.specs.Prelude.{◌≡◌, ◌≢◌, ◌<◌, ◌≤◌, ◌-◌, true, length, All, IfOk, IfSome};
 ghost use Rattle.poly_law.specs.Polynomials.{HaveNoConstant};
 ghost use Rattle.jet_subst.specs.Parts.{IsPart, part_of};
 ghost use Rattle.coord_change.specs.Changes.{IsChange};
@@ -8,7 +8,7 @@ ghost use Rattle.probe.specs.Over.{IsOver};
 
 use crate::jets::put_jets;
 use crate::scalars::{Over, put_elements};
-use crate::words::{Stop, Words};
+use crate::words::{Stop, Words, is};
 use coord_change::{
     Change, ChangeError, ChangeOf, carry, from_parts, identity, invert_to, linear, linear_part,
     matrix_product, then, unit_matrix,
@@ -17,6 +17,7 @@ use ext_algebra::Ext;
 use jet_poly::{JetOf, coef};
 use mono_exp::Exp;
 use ring_law::{Field, Frac, Ring};
+use split_lemma::split;
 use std::alloc::Global;
 
 /// Whether no jet of the list has a constant term.
@@ -80,6 +81,48 @@ fn change_of<F: Field<Elem = Ext<Frac>> + Drop>(
     }
 }
 
+// The numbers, none of them 0, that the next words spell, one for each variable from the corank on.
+fn squares_of<F: Field<Elem = Ext<Frac>> + Drop>(
+    alloc: Global,
+    over: &Over<F>,
+    words: &mut Words,
+    corank: u8,
+) -> Result<Vec<Ext<Frac>>, Stop>
+    requires over { IsOver (F.is_ring over.now.field) (F.meaning over.now.field) over.now.algebra over.now.n over.now.order }
+    requires corank { corank ≤ over.now.n }
+    ensures elems { IfOk result (λ v. All (F.meaning over.now.field).is_elem v.items) }
+    ensures count { IfOk result (λ v. length v.items ≡ over.now.n - corank) }
+    ensures units { IfOk result (λ v. All (λ x. (F.meaning over.now.field).value x ≢ (F.meaning over.now.field).scalars.ops.zero) v.items) }
+{
+    let mut squares = Vec::new(alloc);
+    for _i in corank..over.n {
+        let x = over.element(words)?;
+        if over.field.eq(x, over.field.zero()) {
+            return Err(Stop::Words);
+        }
+        squares.push(x)?;
+    }
+    Ok(squares)
+}
+
+// The split move of a degree of a jet whose squares have given coefficients.
+fn split_of<F: Field<Elem = Ext<Frac>> + Drop>(
+    alloc: Global,
+    over: &Over<F>,
+    words: &mut Words,
+) -> Result<Change<Ext<Frac>>, Stop>
+    requires over { IsOver (F.is_ring over.now.field) (F.meaning over.now.field) over.now.algebra over.now.n over.now.order }
+    requires given { 0 < over.now.n }
+{
+    let (d, corank) = (words.small()?, words.small()?);
+    if d < 3 || corank > over.n || over.order > 16 {
+        return Err(Stop::Words);
+    }
+    let squares = squares_of(alloc, over, words, corank)?;
+    let f = over.jet(alloc, words)?;
+    Ok(split(alloc, &over.field, &f, &squares, corank, d)?)
+}
+
 // Appends the parts of a change, and the inverse of its linear part behind a semicolon.
 fn put_change(alloc: Global, out: &mut Vec<u8>, c: &Change<Ext<Frac>>) -> Result<(), Stop> {
     put_jets(alloc, out, c.parts.as_slice())?;
@@ -87,10 +130,94 @@ fn put_change(alloc: Global, out: &mut Vec<u8>, c: &Change<Ext<Frac>>) -> Result
     put_elements(alloc, out, c.inverse.as_slice())
 }
 
-// The square matrix that is asked for, row after row.
-fn matrix_of<F: Field<Elem = Ext<Frac>> + Drop>(
+// The change of coordinates that a matrix, row after row, makes.
+fn linear_of<F: Field<Elem = Ext<Frac>> + Drop>(
+    alloc: Global,
+    over: &Over<F>,
+    words: &mut Words,
+) -> Result<Change<Ext<Frac>>, Stop>
+    requires over { IsOver (F.is_ring over.now.field) (F.meaning over.now.field) over.now.algebra over.now.n over.now.order }
+    requires given { 0 < over.now.n }
+    requires order_at_least_1 { 1 ≤ over.now.order }
+{
+    let count = usize::from(over.n) * usize::from(over.n);
+    let matrix = over.elements(alloc, words, count)?;
+    Ok(linear(alloc, &over.field, over.n, over.order, &matrix)?)
+}
+
+// A change of coordinates, and then the next one.
+fn composed<F: Field<Elem = Ext<Frac>> + Drop>(
+    alloc: Global,
+    over: &Over<F>,
+    words: &mut Words,
+) -> Result<Change<Ext<Frac>>, Stop>
+    requires over { IsOver (F.is_ring over.now.field) (F.meaning over.now.field) over.now.algebra over.now.n over.now.order }
+    requires given { 0 < over.now.n }
+    requires order_at_least_1 { 1 ≤ over.now.order }
+{
+    let first = change_of(alloc, over, words)?;
+    let next = change_of(alloc, over, words)?;
+    Ok(then(alloc, &over.field, &first, &next, over.order)?)
+}
+
+// The inverse of a change of coordinates.
+fn inverted<F: Field<Elem = Ext<Frac>> + Drop>(
+    alloc: Global,
+    over: &Over<F>,
+    words: &mut Words,
+) -> Result<Change<Ext<Frac>>, Stop>
+    requires over { IsOver (F.is_ring over.now.field) (F.meaning over.now.field) over.now.algebra over.now.n over.now.order }
+    requires given { 0 < over.now.n }
+    requires order_at_least_1 { 1 ≤ over.now.order }
+{
+    let c = change_of(alloc, over, words)?;
+    Ok(invert_to(alloc, &over.field, &c, over.order)?)
+}
+
+// The change of coordinates that is asked for.
+fn change_for<F: Field<Elem = Ext<Frac>> + Drop>(
     alloc: Global,
     command: &[u8],
+    over: &Over<F>,
+    words: &mut Words,
+) -> Result<Change<Ext<Frac>>, Stop>
+    requires over { IsOver (F.is_ring over.now.field) (F.meaning over.now.field) over.now.algebra over.now.n over.now.order }
+    requires given { 0 < over.now.n }
+    requires order_at_least_1 { 1 ≤ over.now.order }
+{
+    if is(command, b"identity") {
+        Ok(identity(alloc, &over.field, over.n, over.order)?)
+    } else if is(command, b"from-parts") {
+        change_of(alloc, over, words)
+    } else if is(command, b"linear") {
+        linear_of(alloc, over, words)
+    } else if is(command, b"then") {
+        composed(alloc, over, words)
+    } else if is(command, b"invert") {
+        inverted(alloc, over, words)
+    } else if is(command, b"split") {
+        split_of(alloc, over, words)
+    } else {
+        Err(Stop::Words)
+    }
+}
+
+// The linear part of the parts that the next words spell, row after row.
+fn linear_part_of<F: Field<Elem = Ext<Frac>> + Drop>(
+    alloc: Global,
+    over: &Over<F>,
+    words: &mut Words,
+) -> Result<Vec<Ext<Frac>>, Stop>
+    requires over { IsOver (F.is_ring over.now.field) (F.meaning over.now.field) over.now.algebra over.now.n over.now.order }
+    requires given { 0 < over.now.n }
+{
+    let parts = over.parts(alloc, words, over.n)?;
+    Ok(linear_part(alloc, &over.field, over.n, &parts)?)
+}
+
+// The product of two matrices, row after row.
+fn product_of<F: Field<Elem = Ext<Frac>> + Drop>(
+    alloc: Global,
     over: &Over<F>,
     words: &mut Words,
 ) -> Result<Vec<Ext<Frac>>, Stop>
@@ -98,19 +225,26 @@ fn matrix_of<F: Field<Elem = Ext<Frac>> + Drop>(
     requires given { 0 < over.now.n }
 {
     let count = usize::from(over.n) * usize::from(over.n);
-    match command {
-        b"linear-part" => {
-            let parts = over.parts(alloc, words, over.n)?;
-            Ok(linear_part(alloc, &over.field, over.n, &parts)?)
-        }
-        b"matrix-product" => {
-            let b = over.elements(alloc, words, count)?;
-            let a = over.elements(alloc, words, count)?;
-            Ok(matrix_product(alloc, &over.field, over.n, &b, &a)?)
-        }
-        b"unit-matrix" => Ok(unit_matrix(alloc, &over.field, over.n)?),
-        _ => Err(Stop::Words),
-    }
+    let b = over.elements(alloc, words, count)?;
+    let a = over.elements(alloc, words, count)?;
+    Ok(matrix_product(alloc, &over.field, over.n, &b, &a)?)
+}
+
+// Appends a jet in new coordinates.
+fn put_carried<F: Field<Elem = Ext<Frac>> + Drop>(
+    alloc: Global,
+    over: &Over<F>,
+    words: &mut Words,
+    out: &mut Vec<u8>,
+) -> Result<(), Stop>
+    requires over { IsOver (F.is_ring over.now.field) (F.meaning over.now.field) over.now.algebra over.now.n over.now.order }
+    requires given { 0 < over.now.n }
+    requires order_at_least_1 { 1 ≤ over.now.order }
+{
+    let c = change_of(alloc, over, words)?;
+    let f = over.jet(alloc, words)?;
+    let h = carry(alloc, &over.field, &c, &f, over.order)?;
+    put_jets(alloc, out, &[h])
 }
 
 /// Appends the answer of a calculation with changes of coordinates.
@@ -123,32 +257,18 @@ pub(crate) fn calculate<F: Field<Elem = Ext<Frac>> + Drop>(
 ) -> Result<(), Stop>
     requires over { IsOver (F.is_ring over.now.field) (F.meaning over.now.field) over.now.algebra over.now.n over.now.order }
 {
-    let (n, order) = (over.n, over.order);
-    if n == 0 || order == 0 {
+    if over.n == 0 || over.order == 0 {
         return Err(Stop::Words);
     }
-    match command {
-        b"identity" => put_change(alloc, out, &identity(alloc, &over.field, n, order)?),
-        b"from-parts" => put_change(alloc, out, &change_of(alloc, over, words)?),
-        b"linear" => {
-            let matrix = over.elements(alloc, words, usize::from(n) * usize::from(n))?;
-            put_change(alloc, out, &linear(alloc, &over.field, n, order, &matrix)?)
-        }
-        b"then" => {
-            let first = change_of(alloc, over, words)?;
-            let next = change_of(alloc, over, words)?;
-            put_change(alloc, out, &then(alloc, &over.field, &first, &next, order)?)
-        }
-        b"invert" => {
-            let c = change_of(alloc, over, words)?;
-            put_change(alloc, out, &invert_to(alloc, &over.field, &c, order)?)
-        }
-        b"carry" => {
-            let c = change_of(alloc, over, words)?;
-            let f = over.jet(alloc, words)?;
-            let h = carry(alloc, &over.field, &c, &f, order)?;
-            put_jets(alloc, out, &[h])
-        }
-        _ => put_elements(alloc, out, &matrix_of(alloc, command, over, words)?),
+    if is(command, b"carry") {
+        put_carried(alloc, over, words, out)
+    } else if is(command, b"linear-part") {
+        put_elements(alloc, out, &linear_part_of(alloc, over, words)?)
+    } else if is(command, b"matrix-product") {
+        put_elements(alloc, out, &product_of(alloc, over, words)?)
+    } else if is(command, b"unit-matrix") {
+        put_elements(alloc, out, &unit_matrix(alloc, &over.field, over.n)?)
+    } else {
+        put_change(alloc, out, &change_for(alloc, command, over, words)?)
     }
 }

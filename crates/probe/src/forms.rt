@@ -8,7 +8,7 @@ ghost use Rattle.probe.specs.Over.{IsOver};
 
 use crate::jets::put_jets;
 use crate::scalars::{Over, put_elements};
-use crate::words::{Stop, Words};
+use crate::words::{Stop, Words, is};
 use ext_algebra::Ext;
 use normal_forms::{
     Family, ModulusLine, form_of, in_pattern, is_form, modulus, quartic_discriminant_of,
@@ -75,30 +75,55 @@ fn triple_modulus(a: Frac, b: Frac, c: Frac) -> Result<ModulusLine, Stop>
     Ok(line)
 }
 
+// The modulus line of the form of X9 whose coefficients the next words spell.
+fn quartic_line(words: &mut Words) -> Result<ModulusLine, Stop> {
+    let a = words.fraction()?;
+    let b = words.fraction()?;
+    let c = words.fraction()?;
+    let d = words.fraction()?;
+    let e = words.fraction()?;
+    quartic_modulus(a, b, c, d, e)
+}
+
+// The modulus line of the form of J10 or of E12 whose coefficients the next words spell.
+fn triple_line(name: &[u8], words: &mut Words) -> Result<ModulusLine, Stop> {
+    let a = words.fraction()?;
+    let b = words.fraction()?;
+    let c = words.fraction()?;
+    if is(name, b"J10") {
+        triple_modulus(a, b, c)
+    } else {
+        Ok(modulus(Family::E12, &[constant(a), constant(b), constant(c)])?)
+    }
+}
+
+// The modulus line of the form of A3, or of P8, all of whose coefficients are the number that the next word spells.
+fn single_line(name: &[u8], words: &mut Words) -> Result<ModulusLine, Stop> {
+    let a = constant(words.fraction()?);
+    if is(name, b"A3") {
+        Ok(modulus(Family::A(3), &[a])?)
+    } else {
+        Ok(modulus(Family::P8, &[a; 10])?)
+    }
+}
+
+// The modulus line of the form of a family with given rational coefficients.
+fn line_of(words: &mut Words) -> Result<ModulusLine, Stop> {
+    let name = words.next();
+    if is(name, b"X9") {
+        quartic_line(words)
+    } else if is(name, b"J10") || is(name, b"E12") {
+        triple_line(name, words)
+    } else if is(name, b"A3") || is(name, b"P8") {
+        single_line(name, words)
+    } else {
+        Err(Stop::Words)
+    }
+}
+
 /// Appends the modulus line of the form of a family with given rational coefficients.
 pub(crate) fn put_modulus(alloc: Global, words: &mut Words, out: &mut Vec<u8>) -> Result<(), Stop> {
-    let line = match words.next() {
-        b"X9" => quartic_modulus(
-            words.fraction()?,
-            words.fraction()?,
-            words.fraction()?,
-            words.fraction()?,
-            words.fraction()?,
-        )?,
-        b"J10" => triple_modulus(words.fraction()?, words.fraction()?, words.fraction()?)?,
-        b"E12" => {
-            let coefs = [
-                constant(words.fraction()?),
-                constant(words.fraction()?),
-                constant(words.fraction()?),
-            ];
-            modulus(Family::E12, &coefs)?
-        }
-        b"A3" => modulus(Family::A(3), &[constant(words.fraction()?)])?,
-        b"P8" => modulus(Family::P8, &[constant(words.fraction()?); 10])?,
-        _ => return Err(Stop::Words),
-    };
-    match line {
+    match line_of(words)? {
         ModulusLine::J(q) => {
             out.extend_from_slice(b"j ")?;
             Ok(put_fraction(out, q)?)
@@ -112,6 +137,97 @@ pub(crate) fn put_modulus(alloc: Global, words: &mut Words, out: &mut Vec<u8>) -
     }
 }
 
+// Appends the unit values of a form of a family.
+fn put_units<F: Field<Elem = Ext<Frac>> + Drop>(
+    alloc: Global,
+    over: &Over<F>,
+    words: &mut Words,
+    out: &mut Vec<u8>,
+) -> Result<(), Stop>
+    requires over { IsOver (F.is_ring over.now.field) (F.meaning over.now.field) over.now.algebra over.now.n over.now.order }
+{
+    let family = read_family(words.next()).ok_or(Stop::Words)?;
+    let c = words.small()?;
+    let f = over.jet(alloc, words)?;
+    match is_form(alloc, &over.field, family, c, &f)? {
+        Some(units) => put_elements(alloc, out, &units),
+        None => Err(Stop::Nothing),
+    }
+}
+
+// Appends the coefficients of the sum of a family's form.
+fn put_coefficients<F: Field<Elem = Ext<Frac>> + Drop>(
+    alloc: Global,
+    over: &Over<F>,
+    words: &mut Words,
+    out: &mut Vec<u8>,
+) -> Result<(), Stop>
+    requires over { IsOver (F.is_ring over.now.field) (F.meaning over.now.field) over.now.algebra over.now.n over.now.order }
+{
+    let family = read_family(words.next()).ok_or(Stop::Words)?;
+    let f = over.jet(alloc, words)?;
+    let coefs = sum_coefficients(alloc, &over.field, family, &f)?;
+    put_elements(alloc, out, &coefs)
+}
+
+// Appends 1 where a jet lies in a pattern, else 0.
+fn put_pattern<F: Field<Elem = Ext<Frac>> + Drop>(
+    alloc: Global,
+    over: &Over<F>,
+    words: &mut Words,
+    out: &mut Vec<u8>,
+) -> Result<(), Stop>
+    requires over { IsOver (F.is_ring over.now.field) (F.meaning over.now.field) over.now.algebra over.now.n over.now.order }
+{
+    let pattern = read_pattern(words.next()).ok_or(Stop::Words)?;
+    let c = words.small()?;
+    let f = over.jet(alloc, words)?;
+    Ok(put_number(out, u64::from(in_pattern(&over.field, pattern, c, &f)))?)
+}
+
+// Appends the form of D6 with two coefficients and that of a square.
+fn put_form<F: Field<Elem = Ext<Frac>> + Drop>(
+    alloc: Global,
+    over: &Over<F>,
+    words: &mut Words,
+    out: &mut Vec<u8>,
+) -> Result<(), Stop>
+    requires over { IsOver (F.is_ring over.now.field) (F.meaning over.now.field) over.now.algebra over.now.n over.now.order }
+{
+    let coefs = [over.element(words)?, over.element(words)?];
+    let squares = [over.element(words)?];
+    let f = form_of(alloc, &over.field, Family::D(6), &coefs, &squares, 5)?;
+    put_jets(alloc, out, &[f])
+}
+
+// Appends the invariants and the discriminant of a quartic form.
+fn put_invariants<F: Field<Elem = Ext<Frac>> + Drop>(
+    alloc: Global,
+    over: &Over<F>,
+    words: &mut Words,
+    out: &mut Vec<u8>,
+) -> Result<(), Stop>
+    requires over { IsOver (F.is_ring over.now.field) (F.meaning over.now.field) over.now.algebra over.now.n over.now.order }
+{
+    let q = over.elements(alloc, words, 5)?;
+    let (i, j) = quartic_invariants(&over.field, &q)?;
+    let discriminant = quartic_discriminant_of(&over.field, &q)?;
+    put_elements(alloc, out, &[i, j, discriminant])
+}
+
+// Appends the discriminant of a form of J10.
+fn put_discriminant<F: Field<Elem = Ext<Frac>> + Drop>(
+    alloc: Global,
+    over: &Over<F>,
+    words: &mut Words,
+    out: &mut Vec<u8>,
+) -> Result<(), Stop>
+    requires over { IsOver (F.is_ring over.now.field) (F.meaning over.now.field) over.now.algebra over.now.n over.now.order }
+{
+    let q = over.elements(alloc, words, 3)?;
+    Ok(put_element(alloc, out, triple_discriminant_of(&over.field, &q)?)?)
+}
+
 /// Appends the answer of a calculation with forms of families over a field.
 pub(crate) fn calculate<F: Field<Elem = Ext<Frac>> + Drop>(
     alloc: Global,
@@ -122,50 +238,19 @@ pub(crate) fn calculate<F: Field<Elem = Ext<Frac>> + Drop>(
 ) -> Result<(), Stop>
     requires over { IsOver (F.is_ring over.now.field) (F.meaning over.now.field) over.now.algebra over.now.n over.now.order }
 {
-    match command {
-        b"units" => {
-            let family = read_family(words.next()).ok_or(Stop::Words)?;
-            let c = words.small()?;
-            let f = over.jet(alloc, words)?;
-            match is_form(alloc, &over.field, family, c, &f)? {
-                Some(units) => put_elements(alloc, out, &units),
-                None => Err(Stop::Nothing),
-            }
-        }
-        b"coefficients" => {
-            let family = read_family(words.next()).ok_or(Stop::Words)?;
-            let f = over.jet(alloc, words)?;
-            put_elements(
-                alloc,
-                out,
-                &sum_coefficients(alloc, &over.field, family, &f)?,
-            )
-        }
-        b"pattern" => {
-            let pattern = read_pattern(words.next()).ok_or(Stop::Words)?;
-            let c = words.small()?;
-            let f = over.jet(alloc, words)?;
-            Ok(put_number(out, u64::from(in_pattern(&over.field, pattern, c, &f)))?)
-        }
-        b"D6" => {
-            let coefs = [over.element(words)?, over.element(words)?];
-            let squares = [over.element(words)?];
-            let f = form_of(alloc, &over.field, Family::D(6), &coefs, &squares, 5)?;
-            put_jets(alloc, out, &[f])
-        }
-        b"quartic" => {
-            let q = over.elements(alloc, words, 5)?;
-            let (i, j) = quartic_invariants(&over.field, &q)?;
-            put_elements(
-                alloc,
-                out,
-                &[i, j, quartic_discriminant_of(&over.field, &q)?],
-            )
-        }
-        b"triple" => {
-            let q = over.elements(alloc, words, 3)?;
-            Ok(put_element(alloc, out, triple_discriminant_of(&over.field, &q)?)?)
-        }
-        _ => Err(Stop::Words),
+    if is(command, b"units") {
+        put_units(alloc, over, words, out)
+    } else if is(command, b"coefficients") {
+        put_coefficients(alloc, over, words, out)
+    } else if is(command, b"pattern") {
+        put_pattern(alloc, over, words, out)
+    } else if is(command, b"D6") {
+        put_form(alloc, over, words, out)
+    } else if is(command, b"quartic") {
+        put_invariants(alloc, over, words, out)
+    } else if is(command, b"triple") {
+        put_discriminant(alloc, over, words, out)
+    } else {
+        Err(Stop::Words)
     }
 }

@@ -5,7 +5,7 @@ ghost use Rattle.poly_law.specs.Polynomials.{StartsAtIn};
 ghost use Rattle.ring_law.specs.Fraction.{rational_meaning};
 ghost use Rattle.jet_poly.specs.Jets.{IsJet, polynomial_of};
 
-use crate::words::{Stop, Words};
+use crate::words::{Stop, Words, is};
 use determinacy::{MatherTest, mather};
 use jet_poly::{Jet, JetOf};
 use jet_quotient::quotient;
@@ -85,9 +85,11 @@ pub(crate) fn calculate(
     if germ.jet.n() > 8 || germ.jet.order() < 2 || germ.jet.order() > 16 {
         return Err(Stop::Words);
     }
-    match command {
-        b"mather" => put_test(alloc, out, &germ.jet),
-        b"quotient" => put_sizes(alloc, out, &germ.jet),
-        _ => Err(Stop::Words),
+    if is(command, b"mather") {
+        put_test(alloc, out, &germ.jet)
+    } else if is(command, b"quotient") {
+        put_sizes(alloc, out, &germ.jet)
+    } else {
+        Err(Stop::Words)
     }
 }

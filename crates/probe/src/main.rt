@@ -17,24 +17,31 @@ mod words;
 use line_io::{Lines, Next, Sink, Source, StdSink, StdSource, write_whole};
 use std::alloc::{AllocError, Global};
 use std::process::ExitCode;
-use words::{Stop, Words};
+use words::{Stop, Words, is};
 
 // Appends the answer to the words.
 fn put_answer(alloc: Global, words: &mut Words, out: &mut Vec<u8>) -> Result<(), Stop> {
     let group = words.next();
-    match group {
-        b"family" => return texts::put_family(words.rest, out),
-        b"modulus" => return forms::put_modulus(alloc, words, out),
-        b"pair" => return shapes::put_pair(words, out),
-        _ => {}
+    if is(group, b"family") {
+        return texts::put_family(words.rest, out);
+    }
+    if is(group, b"modulus") {
+        return forms::put_modulus(alloc, words, out);
+    }
+    if is(group, b"pair") {
+        return shapes::put_pair(words, out);
     }
     let command = words.next();
-    match group {
-        b"number" => numbers::calculate(alloc, command, words, out),
-        b"monomial" => monomials::calculate(alloc, command, words, out),
-        b"germ" => germs::calculate(alloc, command, words, out),
-        b"report" => reports::calculate(alloc, command, words, out),
-        _ => scalars::calculate(alloc, group, command, words, out),
+    if is(group, b"number") {
+        numbers::calculate(alloc, command, words, out)
+    } else if is(group, b"monomial") {
+        monomials::calculate(alloc, command, words, out)
+    } else if is(group, b"germ") {
+        germs::calculate(alloc, command, words, out)
+    } else if is(group, b"report") {
+        reports::calculate(alloc, command, words, out)
+    } else {
+        scalars::calculate(alloc, group, command, words, out)
     }
 }
 

@@ -1,22 +1,17 @@
 //! Monomials by their eight exponents, and the monomials of a degree.
 
-use crate::words::{Stop, Words};
+use crate::words::{Stop, Words, is};
 use mono_exp::{Exp, before, degree, list, quotient, rank, times, unrank, weight};
 use poly_text::{new_names, put_monomial, put_number};
 use std::alloc::Global;
 
-// The next eight numbers.
-fn eight(words: &mut Words) -> Result<[u8; 8], Stop> {
-    Ok([
-        words.small()?,
-        words.small()?,
-        words.small()?,
-        words.small()?,
-        words.small()?,
-        words.small()?,
-        words.small()?,
-        words.small()?,
-    ])
+// The monomial whose eight exponents the next words spell.
+fn eight(words: &mut Words) -> Result<Exp, Stop> {
+    let mut e = [0; 8];
+    for i in 0..8 {
+        e[i] = words.small()?;
+    }
+    Ok(Exp { e })
 }
 
 // Appends a monomial in the variables u1 to u8; nothing is an answer too.
@@ -27,8 +22,10 @@ fn put(alloc: Global, out: &mut Vec<u8>, m: Option<Exp>) -> Result<(), Stop> {
     }
 }
 
-// Appends all monomials of a degree in n variables, each with its number and a space before it.
-fn put_list(alloc: Global, out: &mut Vec<u8>, n: u8, d: u8) -> Result<(), Stop> {
+// Appends all monomials in so many variables of a degree, which the next words spell, each with its number and a space before it.
+fn put_list(alloc: Global, words: &mut Words, out: &mut Vec<u8>) -> Result<(), Stop> {
+    let n = words.small()?;
+    let d = words.small()?;
     if n > 8 || d > 17 {
         return Err(Stop::Words);
     }
@@ -44,6 +41,13 @@ fn put_list(alloc: Global, out: &mut Vec<u8>, n: u8, d: u8) -> Result<(), Stop> 
     Ok(())
 }
 
+// Appends the degree of a monomial and its weighted degree.
+fn put_degrees(out: &mut Vec<u8>, m: Exp, weights: Exp) -> Result<(), Stop> {
+    put_number(out, u64::from(degree(m)))?;
+    out.push(b' ')?;
+    Ok(put_number(out, u64::from(weight(m, weights.e)))?)
+}
+
 /// Appends the answer of a calculation with monomials.
 pub(crate) fn calculate(
     alloc: Global,
@@ -51,19 +55,20 @@ pub(crate) fn calculate(
     words: &mut Words,
     out: &mut Vec<u8>,
 ) -> Result<(), Stop> {
-    if command == b"monomials".as_slice() {
-        return put_list(alloc, out, words.small()?, words.small()?);
+    if is(command, b"monomials") {
+        return put_list(alloc, words, out);
     }
-    let (a, b) = (eight(words)?, eight(words)?);
-    match command {
-        b"degree-and-weight" => {
-            put_number(out, u64::from(degree(Exp { e: a })))?;
-            out.push(b' ')?;
-            Ok(put_number(out, u64::from(weight(Exp { e: a }, b)))?)
-        }
-        b"before" => Ok(put_number(out, u64::from(before(Exp { e: a }, Exp { e: b })))?),
-        b"times" => put(alloc, out, times(Exp { e: a }, Exp { e: b })),
-        b"divided" => put(alloc, out, quotient(Exp { e: a }, Exp { e: b })),
-        _ => Err(Stop::Words),
+    let a = eight(words)?;
+    let b = eight(words)?;
+    if is(command, b"degree-and-weight") {
+        put_degrees(out, a, b)
+    } else if is(command, b"before") {
+        Ok(put_number(out, u64::from(before(a, b)))?)
+    } else if is(command, b"times") {
+        put(alloc, out, times(a, b))
+    } else if is(command, b"divided") {
+        put(alloc, out, quotient(a, b))
+    } else {
+        Err(Stop::Words)
     }
 }

@@ -3,7 +3,7 @@
 ghost use Rattle.ring_law.specs.Fraction.{rational_meaning};
 ghost use Rattle.jet_poly.specs.Jets.{IsJet};
 
-use crate::words::{Stop, Words};
+use crate::words::{Stop, Words, is};
 use cert_check::check;
 use cert_text::write_report;
 use line_germ::{Germ, Read, read_line};
@@ -123,9 +123,42 @@ fn finding_of(alloc: Global, text: &[u8]) -> Result<Finding, NoMemory> {
 // Appends the text that is written for the report that is read from a text.
 fn put_copy(alloc: Global, text: &[u8], out: &mut Vec<u8>) -> Result<(), Stop> {
     match copy_of(alloc, text) {
-        Ok(copy) => Ok(out.extend_from_slice(&replaced(alloc, &copy, b'\n', b'|')?)?),
+        Ok(copy) => {
+            let line = replaced(alloc, &copy, b'\n', b'|')?;
+            Ok(out.extend_from_slice(&line)?)
+        }
         Err(ReadError::BadText { offset }) => Ok(put_finding(out, Finding::BadText { offset })?),
         Err(ReadError::NoMemory) => Err(Stop::NoMemory),
+    }
+}
+
+// Appends what the checker finds of a text.
+fn put_found(alloc: Global, text: &[u8], out: &mut Vec<u8>) -> Result<(), Stop> {
+    let found = finding_of(alloc, text)?;
+    Ok(put_finding(out, found)?)
+}
+
+// Appends what is read of a line that is put together from the next words.
+fn put_repeated(alloc: Global, words: &mut Words, out: &mut Vec<u8>) -> Result<(), Stop> {
+    let limit = words.small()?;
+    let line = repeated(alloc, words)?;
+    put_read(alloc, limit, &line, out)
+}
+
+// Appends what is done with the report that is left of a line.
+fn put_done(
+    alloc: Global,
+    command: &[u8],
+    words: &mut Words,
+    out: &mut Vec<u8>,
+) -> Result<(), Stop> {
+    let text = replaced(alloc, words.rest, b'|', b'\n')?;
+    if is(command, b"copy") {
+        put_copy(alloc, &text, out)
+    } else if is(command, b"check") {
+        put_found(alloc, &text, out)
+    } else {
+        Err(Stop::Words)
     }
 }
 
@@ -136,20 +169,12 @@ pub(crate) fn calculate(
     words: &mut Words,
     out: &mut Vec<u8>,
 ) -> Result<(), Stop> {
-    match command {
-        b"read" => {
-            let limit = words.small()?;
-            put_read(alloc, limit, words.rest, out)
-        }
-        b"read-repeated" => {
-            let limit = words.small()?;
-            put_read(alloc, limit, &repeated(alloc, words)?, out)
-        }
-        b"copy" => put_copy(alloc, &replaced(alloc, words.rest, b'|', b'\n')?, out),
-        b"check" => {
-            let found = finding_of(alloc, &replaced(alloc, words.rest, b'|', b'\n')?)?;
-            Ok(put_finding(out, found)?)
-        }
-        _ => Err(Stop::Words),
+    if is(command, b"read") {
+        let limit = words.small()?;
+        put_read(alloc, limit, words.rest, out)
+    } else if is(command, b"read-repeated") {
+        put_repeated(alloc, words, out)
+    } else {
+        put_done(alloc, command, words, out)
     }
 }

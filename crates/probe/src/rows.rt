@@ -6,7 +6,7 @@ ghost use Rattle.lin_row.specs.Rows.{AreRows, rows_of};
 ghost use Rattle.probe.specs.Over.{IsOver};
 
 use crate::scalars::{Over, put_elements};
-use crate::words::{Stop, Words};
+use crate::words::{Stop, Words, is};
 use ext_algebra::Ext;
 use lin_row::{Row, Solution, kernel, reduce, solve};
 use poly_text::{put_element, put_number};
@@ -92,6 +92,24 @@ fn put_rows(alloc: Global, out: &mut Vec<u8>, rows: &[Row<Ext<Frac>>]) -> Result
     Ok(())
 }
 
+// Appends what solves or excludes the target that the next words spell.
+fn put_solution<F: Field<Elem = Ext<Frac>> + Drop>(
+    alloc: Global,
+    over: &Over<F>,
+    words: &mut Words,
+    out: &mut Vec<u8>,
+    rows: &[Row<Ext<Frac>>],
+) -> Result<(), Stop>
+    requires over { IsOver (F.is_ring over.now.field) (F.meaning over.now.field) over.now.algebra over.now.n over.now.order }
+    requires rows { AreRows (F.meaning over.now.field) rows.now }
+{
+    let target = row_of(alloc, over, words)?;
+    match solve(alloc, &over.field, rows, &target)? {
+        Solution::Solved(xs) => put_elements(alloc, out, &xs),
+        Solution::Excluded(values) => put_entries(alloc, out, &values),
+    }
+}
+
 /// Appends the reduced form or the kernel of rows, or what solves or excludes a target.
 pub(crate) fn calculate<F: Field<Elem = Ext<Frac>> + Drop>(
     alloc: Global,
@@ -103,20 +121,17 @@ pub(crate) fn calculate<F: Field<Elem = Ext<Frac>> + Drop>(
     requires over { IsOver (F.is_ring over.now.field) (F.meaning over.now.field) over.now.algebra over.now.n over.now.order }
 {
     let rows = rows_of(alloc, over, words, over.order)?;
-    match command {
-        b"reduce" => put_rows(alloc, out, &reduce(alloc, &over.field, &rows)?),
-        b"kernel" => put_rows(
+    if is(command, b"reduce") {
+        put_rows(alloc, out, &reduce(alloc, &over.field, &rows)?)
+    } else if is(command, b"kernel") {
+        put_rows(
             alloc,
             out,
             &kernel(alloc, &over.field, &rows, u32::from(over.n))?,
-        ),
-        b"solve" => {
-            let target = row_of(alloc, over, words)?;
-            match solve(alloc, &over.field, &rows, &target)? {
-                Solution::Solved(xs) => put_elements(alloc, out, &xs),
-                Solution::Excluded(values) => put_entries(alloc, out, &values),
-            }
-        }
-        _ => Err(Stop::Words),
+        )
+    } else if is(command, b"solve") {
+        put_solution(alloc, over, words, out, &rows)
+    } else {
+        Err(Stop::Words)
     }
 }

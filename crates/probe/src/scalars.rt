@@ -10,7 +10,7 @@ ghost use Rattle.jet_subst.specs.Parts.{IsPart};
 ghost use Rattle.cert_text.specs.WellFormed.{IsJetOf};
 ghost use Rattle.probe.specs.Over.{IsOver};
 
-use crate::words::{Stop, Words};
+use crate::words::{Stop, Words, is};
 use crate::{changes, forms, jets, rows, shapes, texts};
 use ext_algebra::{Algebra, AlgebraField, AlgebraRing, Ext, ExtField, ExtRing, TowerField, Triple};
 use jet_poly::{Jet, from_terms};
@@ -167,6 +167,22 @@ pub(crate) fn put_elements(
     Ok(())
 }
 
+// Appends the inverse of an element.
+fn put_inverse<F: Field<Elem = Ext<Frac>> + Drop>(
+    alloc: Global,
+    over: &Over<F>,
+    words: &mut Words,
+    out: &mut Vec<u8>,
+) -> Result<(), Stop>
+    requires over { IsOver (F.is_ring over.now.field) (F.meaning over.now.field) over.now.algebra over.now.n over.now.order }
+{
+    let a = over.element(words)?;
+    match over.field.inv(a)? {
+        Some(x) => Ok(put_element(alloc, out, x)?),
+        None => Err(Stop::Nothing),
+    }
+}
+
 // Appends the answer to a line that is about a field.
 fn answer_over<F: Field<Elem = Ext<Frac>> + Drop>(
     alloc: Global,
@@ -178,20 +194,20 @@ fn answer_over<F: Field<Elem = Ext<Frac>> + Drop>(
 ) -> Result<(), Stop>
     requires over { IsOver (F.is_ring over.now.field) (F.meaning over.now.field) over.now.algebra over.now.n over.now.order }
 {
-    match (group, command) {
-        (b"jet", _) => jets::calculate(alloc, command, over, words, out),
-        (b"change", _) => changes::calculate(alloc, command, over, words, out),
-        (b"row", _) => rows::calculate(alloc, command, over, words, out),
-        (b"form", _) => forms::calculate(alloc, command, over, words, out),
-        (b"shape", _) => shapes::calculate(alloc, command, over, words, out),
-        (b"element", b"inverse") => {
-            let a = over.element(words)?;
-            match over.field.inv(a)? {
-                Some(x) => Ok(put_element(alloc, out, x)?),
-                None => Err(Stop::Nothing),
-            }
-        }
-        _ => Err(Stop::Words),
+    if is(group, b"jet") {
+        jets::calculate(alloc, command, over, words, out)
+    } else if is(group, b"change") {
+        changes::calculate(alloc, command, over, words, out)
+    } else if is(group, b"row") {
+        rows::calculate(alloc, command, over, words, out)
+    } else if is(group, b"form") {
+        forms::calculate(alloc, command, over, words, out)
+    } else if is(group, b"shape") {
+        shapes::calculate(alloc, command, over, words, out)
+    } else if is(group, b"element") && is(command, b"inverse") {
+        put_inverse(alloc, over, words, out)
+    } else {
+        Err(Stop::Words)
     }
 }
 
@@ -301,12 +317,17 @@ pub(crate) fn calculate(
     out: &mut Vec<u8>,
 ) -> Result<(), Stop> {
     let algebra = words.algebra(alloc)?;
-    match (group, command) {
-        (b"text", _) => return texts::calculate(alloc, command, algebra, words, out),
-        (_, b"product") => return put_product(alloc, algebra, words, out),
-        (_, b"conjugate") => return put_conjugate(alloc, algebra, words, out),
-        (_, b"tower") => return put_tower(alloc, algebra, words, out),
-        _ => {}
+    if is(group, b"text") {
+        return texts::calculate(alloc, command, algebra, words, out);
+    }
+    if is(command, b"product") {
+        return put_product(alloc, algebra, words, out);
+    }
+    if is(command, b"conjugate") {
+        return put_conjugate(alloc, algebra, words, out);
+    }
+    if is(command, b"tower") {
+        return put_tower(alloc, algebra, words, out);
     }
     let (n, order) = (words.small()?, words.small()?);
     if n > 8 || order > 17 {

@@ -4,7 +4,7 @@ ghost use Rattle.std.specs.Prelude.{◌≡◌};
 ghost use Rattle.probe.specs.Over.{IsOver};
 
 use crate::scalars::{Over, put_elements};
-use crate::words::{Stop, Words};
+use crate::words::{Stop, Words, is};
 use bin_forms::{Cubic, Line, Pair, Quartic, cubic_shape, pair_lines, quartic_shape};
 use ext_algebra::{Algebra, Ext};
 use poly_text::{put_element, put_fraction};
@@ -80,15 +80,13 @@ pub(crate) fn calculate<F: Field<Elem = Ext<Frac>> + Drop>(
 ) -> Result<(), Stop>
     requires over { IsOver (F.is_ring over.now.field) (F.meaning over.now.field) over.now.algebra over.now.n over.now.order }
 {
-    match command {
-        b"cubic" => {
-            let c = over.elements(alloc, words, 4)?;
-            put_cubic(alloc, out, cubic_shape(&over.field, &c)?)
-        }
-        b"quartic" => {
-            let q = over.elements(alloc, words, 5)?;
-            put_quartic(alloc, out, quartic_shape(&over.field, &q)?)
-        }
-        _ => Err(Stop::Words),
+    if is(command, b"cubic") {
+        let c = over.elements(alloc, words, 4)?;
+        put_cubic(alloc, out, cubic_shape(&over.field, &c)?)
+    } else if is(command, b"quartic") {
+        let q = over.elements(alloc, words, 5)?;
+        put_quartic(alloc, out, quartic_shape(&over.field, &q)?)
+    } else {
+        Err(Stop::Words)
     }
 }

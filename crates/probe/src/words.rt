@@ -98,6 +98,11 @@ impl Stop {
     }
 }
 
+/// Whether a word is another one.
+pub(crate) fn is(word: &[u8], name: &[u8]) -> bool {
+    word == name
+}
+
 /// The words of a line that are not read yet, with single spaces between them.
 #[derive(Drop)]
 pub(crate) struct Words<'a> {
