@@ -1,5 +1,5 @@
 -- All steps of the reduction, as they are made and counted.
-use Rattle.std.proofs.Common.{◌≡◌, ℕ, zero, suc, ◌+◌, ◌<◌, inl, inr, List, [], ◌∷◌, ◌++◌, map, length, get_or, ap, sym, ◌∙◌, refl, subst, arith}
+use Rattle.std.proofs.Common.{◌≡◌, ℕ, zero, suc, ◌+◌, ◌<◌, inl, inr, List, [], ◌∷◌, ◌++◌, map, length, get_or, ap, ◌∙◌, refl, arith}
 use Rattle.ring_theory.specs.Scalars.{Scalars, ScalarLaws, HasInverses}
 use Rattle.lin_row.specs.Plain.{Among}
 use Rattle.move_law.specs.Hessian.{Squares, next_square, next_work, squares_after, squares_work_after}

@@ -1,5 +1,5 @@
 -- Jets of the program as canonical lists of terms.
-use Rattle.std.proofs.Common.{◌≡◌, ◌≢◌, ℕ, ◌≤◌, List, [], ◌∷◌, sum, All, sym, ◌∙◌, subst}
+use Rattle.std.proofs.Common.{◌≡◌, ◌≢◌, ℕ, ◌≤◌, List, [], ◌∷◌, sum, All, sym, subst}
 use Rattle.std.proofs.lemmas.List.Elements.{All-head, All-tail}
 use Rattle.ring_theory.specs.Scalars.{Meaning, ScalarLaws}
 use Rattle.poly_law.specs.ExpList.{exps}

@@ -1,16 +1,15 @@
 -- The composite of changes of the program as the composite of moves.
-use Rattle.std.proofs.Common.{◌≡◌, ℕ, ◌+◌, ◌<◌, ◌≤◌, inl, inr, List, [], map, length, get_or, All, ap, sym, ◌∙◌, refl, subst, arith}
+use Rattle.std.proofs.Common.{◌≡◌, ℕ, ◌+◌, ◌<◌, inl, inr, List, [], map, length, get_or, All, ap, sym, ◌∙◌, subst, arith}
 use Rattle.std.proofs.lemmas.List.{get_or-map, length-map, same_lists}
 use Rattle.ring_theory.specs.Scalars.{Meaning, ScalarLaws}
 use Rattle.ring_theory.proofs.ValueSet.{values_are_set}
 use Rattle.poly_law.specs.Exps.{variable}
 use Rattle.poly_law.specs.ExpList.{exps}
-use Rattle.poly_law.specs.Poly.{coefficient, SameTo, IsInvertible}
+use Rattle.poly_law.specs.Poly.{coefficient, IsInvertible}
 use Rattle.poly_law.specs.Polynomials.{Polynomial, SameIn, cut_in, substitute}
 use Rattle.poly_law.proofs.ExpLists.{exps_are}
 use Rattle.poly_law.proofs.Order
 use Rattle.jet_law.specs.Terms.{poly_of}
-use Rattle.jet_law.specs.Canonical.{jet}
 use Rattle.jet_poly.specs.JetTerms.{JetTerms, IsRising}
 use Rattle.jet_poly.specs.Jets.{IsJet}
 use Rattle.jet_subst.specs.Parts.{IsPart, part_of, jet_at}

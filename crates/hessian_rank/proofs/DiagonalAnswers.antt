@@ -1,5 +1,5 @@
 -- The answer of the whole reduction.
-use Rattle.std.proofs.Common.{◌≡◌, ◌≢◌, ℕ, ◌+◌, ◌-◌, ◌<◌, ◌≤◌, inl, inr, List, [], ◌∷◌, ◌++◌, map, length, length-append, get_or, All, refl, sym, ap, ap₂, ◌∙◌, subst, arith}
+use Rattle.std.proofs.Common.{◌≡◌, ◌≢◌, ℕ, ◌+◌, ◌-◌, ◌<◌, ◌≤◌, inl, inr, List, [], ◌∷◌, ◌++◌, map, length, length-append, get_or, All, sym, ap, ◌∙◌, subst, arith}
 use Rattle.std.proofs.lemmas.List.{get_or-map, length-map}
 use Rattle.ring_theory.specs.Rational.{Rational}
 use Rattle.ring_theory.specs.Height.{rational_scalars}
@@ -10,7 +10,6 @@ use Rattle.ring_law.specs.Fraction.{IsFrac, frac_value, rational_meaning}
 use Rattle.poly_law.specs.Polynomials.{Polynomial, StartsAtIn}
 use Rattle.mono_exp.specs.Exponents.{numbers_below}
 use Rattle.mono_exp.proofs.Lists.{Each, each-append, length-numbers_below, get_or-numbers_below}
-use Rattle.jet_subst.proofs.PowerLemmas.{any_default}
 use Rattle.coord_change.specs.declared.change.Change.{Change}
 use Rattle.coord_change.specs.Moves.{at}
 use Rattle.coord_change.specs.Carries.{carry, compose}

@@ -1,18 +1,15 @@
 -- Matrices of the program, entry after entry, for the moves of the Hessian.
-use Rattle.std.proofs.Common.{◌≡◌, ◌≢◌, ℕ, zero, suc, ◌+◌, ◌*◌, ◌/◌, ◌%◌, ◌<◌, ◌≤◌, ◌⊎◌, inl, inr, Bool, true, false, ◌&&◌, cond, eqb, eqb-true, eq-eqb, ne_eqb, List, [], ◌∷◌, ◌++◌, map, length, get_or, set, take, mul_comm, All, ap, ap₂, sym, ◌∙◌, refl, subst, arith}
+use Rattle.std.proofs.Common.{◌≡◌, ◌≢◌, ℕ, ◌+◌, ◌*◌, ◌/◌, ◌%◌, ◌<◌, inl, Bool, true, false, ◌&&◌, cond, eqb, eqb-true, eq-eqb, ne_eqb, List, [], ◌∷◌, ◌++◌, map, length, get_or, set, take, mul_comm, All, ap, ap₂, sym, ◌∙◌, refl, subst, arith}
 use Rattle.std.proofs.lemmas.Nat.{div-mul-add, mod-mul-add}
 use Rattle.std.proofs.lemmas.List.Elements.{All-set}
-use Rattle.std.proofs.lemmas.List.{map-append, map-set, get_or-set_same, get_or-set_other, take_more, length-map, length-set}
-use Rattle.ring_theory.specs.Scalars.{Scalars, ScalarLaws, Meaning, HasInverses}
-use Rattle.poly_law.specs.Sums.{sum_to, unit_at}
+use Rattle.std.proofs.lemmas.List.{map-set, get_or-set_same, get_or-set_other, take_more, length-map, length-set}
+use Rattle.ring_theory.specs.Scalars.{Scalars, ScalarLaws, Meaning}
+use Rattle.poly_law.specs.Sums.{unit_at}
 use Rattle.poly_law.specs.Exps.{variable}
 use Rattle.poly_law.specs.ExpList.{exps}
 use Rattle.poly_law.specs.Poly.{coefficient, scale, term}
-use Rattle.poly_law.specs.Polynomials.{Polynomial, SameIn, poly_in}
-use Rattle.poly_law.proofs.ExpLists.{exps_are}
-use Rattle.poly_law.proofs.Order
+use Rattle.poly_law.specs.Polynomials.{poly_in}
 use Rattle.poly_law.proofs.Sums
-use Rattle.mono_exp.specs.Exponents.{numbers_below}
 use Rattle.mono_exp.proofs.Lists.{Each}
 use Rattle.coord_change.specs.Changes.{entry_of}
 use Rattle.coord_change.specs.Inverses.{HasNoKernel}
@@ -22,7 +19,7 @@ use Rattle.coord_change.proofs.Matrices
 use Rattle.move_law.specs.Moves.{linear, over}
 use Rattle.move_law.specs.Hessian.{Squares, others, entry, double, completing, mixing, permuting}
 use Rattle.hessian_rank.specs.Sound.{Has, Distinct, IsLinear, IsSound}
-use Rattle.hessian_rank.specs.Stages.{IsRegular, IsMatrixOf}
+use Rattle.hessian_rank.specs.Stages.{IsMatrixOf}
 use Rattle.hessian_rank.proofs.NumberLists
 use Rattle.hessian_rank.proofs.MatrixSums
 use Rattle.hessian_rank.proofs.LinearMoves

@@ -1,8 +1,7 @@
 -- The first squares and products, as they are looked for, and the coefficients of a form.
-use Rattle.std.proofs.Common.{◌≡◌, ◌≢◌, ℕ, zero, suc, ◌+◌, ◌<◌, ◌≤◌, Bool, true, false, not, cond, ◌||◌, eqb, eqb-true, eq-eqb, ne_eqb, List, [], ◌∷◌, ◌++◌, map, length, get_or, set, drop, Option, Some, None, IsTrue, ◌↔◌, ap, ap₂, sym, ◌∙◌, refl, subst, arith}
+use Rattle.std.proofs.Common.{◌≡◌, ℕ, zero, suc, ◌+◌, ◌<◌, ◌≤◌, Bool, true, false, not, cond, ◌||◌, eqb, eqb-true, eq-eqb, ne_eqb, List, [], ◌∷◌, ◌++◌, map, length, get_or, set, drop, Some, None, IsTrue, ◌↔◌, ap, ap₂, sym, ◌∙◌, refl, subst, arith}
 use Rattle.std.proofs.lemmas.List.{get_or-set_same, get_or-set_other, length-set}
-use Rattle.ring_theory.specs.Scalars.{Scalars, ScalarLaws, Meaning, MeaningLaws}
-use Rattle.poly_law.specs.ExpList.{exps}
+use Rattle.ring_theory.specs.Scalars.{ScalarLaws, Meaning}
 use Rattle.poly_law.proofs.ExpLists.{exps_are}
 use Rattle.mono_exp.specs.declared.exponent.Exp.{Exp}
 use Rattle.mono_exp.specs.Exponents.{IsIn}

@@ -1,11 +1,11 @@
 -- Closing one square after the other: what stays true of the open and the closed variables.
-use Rattle.std.proofs.Common.{◌≡◌, ◌≢◌, ℕ, suc, ◌+◌, ◌<◌, ◌⊎◌, inl, inr, Bool, true, false, cond, eqb, eqb-true, eq-eqb, ne_eqb, Some, None, List, [], ◌∷◌, ◌++◌, map, length, length-append, ap, ap₂, sym, ◌∙◌, refl, subst, arith}
+use Rattle.std.proofs.Common.{◌≡◌, ◌≢◌, ℕ, suc, ◌<◌, ◌⊎◌, inl, inr, Bool, true, false, cond, eqb, eqb-true, eq-eqb, ne_eqb, Some, None, List, [], ◌∷◌, ◌++◌, map, length-append, ap, ap₂, sym, ◌∙◌, refl, subst, arith}
 use Rattle.ring_theory.specs.Scalars.{Scalars, ScalarLaws, HasInverses}
 use Rattle.ring_theory.proofs.ValueSet.{values_are_set}
 use Rattle.poly_law.specs.Sums.{sum_to, multiple, unit_at}
 use Rattle.poly_law.specs.Exps.{variable, plus}
 use Rattle.poly_law.specs.ExpList.{exps}
-use Rattle.poly_law.specs.Poly.{coefficient, derivative, SameTo, StartsAt}
+use Rattle.poly_law.specs.Poly.{coefficient, SameTo, StartsAt}
 use Rattle.poly_law.specs.Polynomials.{Polynomial, substitute}
 use Rattle.poly_law.proofs.ExpLists.{exps_are}
 use Rattle.poly_law.proofs.ExpLaws

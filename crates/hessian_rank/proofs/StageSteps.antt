@@ -1,10 +1,10 @@
 -- The stages of the program beside those of the definition.
-use Rattle.std.proofs.Common.{◌≡◌, ◌≢◌, ℕ, zero, suc, ◌+◌, ◌<◌, ◌≤◌, inl, inr, Bool, true, false, not, Option, Some, None, List, [], ◌∷◌, ◌++◌, map, length, get_or, take, All, refl, sym, ap, ap₂, ◌∙◌, subst, arith}
+use Rattle.std.proofs.Common.{◌≡◌, ◌≢◌, ℕ, zero, suc, ◌+◌, ◌<◌, ◌≤◌, Bool, true, false, not, Option, Some, None, List, [], ◌∷◌, ◌++◌, map, length, get_or, take, All, refl, sym, ap, ◌∙◌, subst, arith}
 use Rattle.std.proofs.lemmas.List.{map-append, take_more, get_or-map, length-map, same_lists}
 use Rattle.ring_theory.specs.Scalars.{Scalars, Meaning, ScalarLaws, HasInverses}
 use Rattle.poly_law.specs.Exps.{variable}
 use Rattle.poly_law.specs.ExpList.{exps}
-use Rattle.poly_law.specs.Poly.{coefficient, SameTo, StartsAt}
+use Rattle.poly_law.specs.Poly.{coefficient, StartsAt}
 use Rattle.poly_law.specs.Polynomials.{Polynomial, SameIn, cut_in, term_in}
 use Rattle.poly_law.proofs.ExpLists.{exps_are}
 use Rattle.poly_law.proofs.Order
@@ -24,7 +24,7 @@ use Rattle.coord_change.proofs.InverseLemmas
 use Rattle.coord_change.specs.Inverses.{InverseIsHigh}
 use Rattle.kill_law.specs.Kill.{first}
 use Rattle.move_law.specs.Moves.{whole, is_there, pair_exponents}
-use Rattle.move_law.specs.Hessian.{Squares, pairs, others, started, moved, entry, has_entry, close, mixing, next_square, moved_work, close_work, next_work}
+use Rattle.move_law.specs.Hessian.{Squares, pairs, others, moved, entry, has_entry, close, mixing, next_square, moved_work, close_work, next_work}
 use Rattle.split_lemma.specs.Splits.{AnyHigh}
 use Rattle.hessian_rank.specs.declared.stage.Stage.{Stage}
 use Rattle.move_law.specs.Work as work
@@ -32,7 +32,6 @@ use Rattle.move_law.specs.Work.{IsWorkHigh}
 use Rattle.hessian_rank.specs.Sound.{Has, Distinct, IsLinear, partial, IsSound}
 use Rattle.hessian_rank.specs.Stages.{stage_of, IsStage, IsStageFor, IsLinearChange, PutsSame}
 use Rattle.hessian_rank.proofs.CanonicalJets.{canonical}
-use Rattle.hessian_rank.proofs.ComposedMoves.{put_from}
 use Rattle.hessian_rank.proofs.LinearMoves
 use Rattle.hessian_rank.proofs.NumberLists
 use Rattle.hessian_rank.proofs.SquareSteps

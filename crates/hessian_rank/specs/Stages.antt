@@ -12,7 +12,7 @@ use Rattle.coord_change.specs.Linear.{linear_form}
 use Rattle.coord_change.specs.Moves.{Move, put, move_from}
 use Rattle.move_law.specs.Hessian.{Squares}
 use Rattle.hessian_rank.specs.declared.stage.Stage.{Stage}
-use Rattle.hessian_rank.specs.Sound.{IsLinear, IsSound}
+use Rattle.hessian_rank.specs.Sound.{IsLinear}
 
 module _ {E V : Type 0} (m : Meaning E V) (n : ℕ) where
   -- the variables, the move and the polynomial of a stage

@@ -1,4 +1,4 @@
-use Rattle.std.proofs.Common.{◌≡◌, ℕ, ◌<◌, ◌≤◌, inl, List, length, All, refl, sym, ◌∙◌, subst, arith}
+use Rattle.std.proofs.Common.{inl, List, All, refl, subst, arith}
 use Rattle.ring_law.proofs.Exits.{fault_handed_on}
 use Rattle.jet_poly.specs.JetTerms.{JetTerms, IsRising}
 use Rattle.hessian_rank.proofs.ComposedMoves.{rising_more, exactly, compose_high}

@@ -1,4 +1,4 @@
-use Rattle.std.proofs.Common.{◌≡◌, ℕ, ◌<◌, get_or}
+use Rattle.std.proofs.Common.{ℕ, ◌<◌, get_or}
 use Rattle.jet_poly.specs.JetTerms.{JetTerms, IsRising}
 use Rattle.hessian_rank.proofs.composing.composed.Given as goal
 

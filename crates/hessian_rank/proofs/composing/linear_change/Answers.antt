@@ -1,4 +1,3 @@
-use Rattle.std.proofs.Common.{◌≡◌, map, get_or}
 use Rattle.hessian_rank.proofs.composing.linear_change.Goals as goal
 
 pub linear-requires-clause-elems : goal.linear-requires-clause-elems

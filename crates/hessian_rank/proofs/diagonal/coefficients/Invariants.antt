@@ -1,4 +1,4 @@
-use Rattle.std.proofs.Common.{◌≡◌, ℕ, map, take, All}
+use Rattle.std.proofs.Common.{◌≡◌, map, take, All}
 use Rattle.move_law.specs.Hessian.{entry as entry_of}
 use Rattle.hessian_rank.specs.Stages.{stage_of}
 use Rattle.hessian_rank.proofs.diagonal.coefficients.Given as goal

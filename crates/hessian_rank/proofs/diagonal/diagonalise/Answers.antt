@@ -1,4 +1,4 @@
-use Rattle.std.proofs.Common.{◌≡◌, ◌≤◌, ◌++◌, ◌∷◌, [], List, length, sym, ◌∙◌, ap, subst, arith}
+use Rattle.std.proofs.Common.{◌≡◌, ◌++◌, ◌∷◌, [], List, length, sym, subst, arith}
 use Rattle.ring_theory.specs.Height.{rational_scalars}
 use Rattle.ring_theory.proofs.RationalLaws.{rational_scalar_laws}
 use Rattle.ring_law.specs.declared.fraction.Frac.{Frac}
@@ -6,11 +6,8 @@ use Rattle.ring_law.specs.Fraction.{frac_value, rational_meaning}
 use Rattle.ring_law.proofs.Exits.{fault_handed_on}
 use Rattle.jet_law.specs.Terms.{poly_of}
 use Rattle.jet_law.specs.Canonical.{jet}
-use Rattle.coord_change.specs.Carries.{compose}
 use Rattle.move_law.specs.Work as work
 use Rattle.move_law.specs.Hessian.{squares, permuting}
-use Rattle.split_lemma.specs.Splits.{AnyHigh}
-use Rattle.hessian_rank.specs.Stages.{stage_of}
 use Rattle.hessian_rank.specs.Answers.{IsDiagonal}
 use Rattle.hessian_rank.proofs.StageSteps.{own_stage, own_sound, own_work, jet_low}
 use Rattle.hessian_rank.proofs.DiagonalAnswers.{end_sound, few_open, last_high, steps_high, diagonal_is}

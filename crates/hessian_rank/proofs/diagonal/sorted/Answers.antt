@@ -1,4 +1,4 @@
-use Rattle.std.proofs.Common.{◌≡◌, ◌≤◌, ◌++◌, inl, inr, List, length, sym, ◌∙◌, ap, ap₂, subst, arith}
+use Rattle.std.proofs.Common.{◌++◌, inl, inr, List, sym, ◌∙◌, ap₂, subst, arith}
 use Rattle.ring_law.proofs.Exits.{fault_handed_on}
 use Rattle.coord_change.specs.Changes.{entry_of}
 use Rattle.move_law.specs.Hessian.{permuting}

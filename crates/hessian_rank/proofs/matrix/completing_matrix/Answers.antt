@@ -1,4 +1,4 @@
-use Rattle.std.proofs.Common.{◌≡◌, ◌≢◌, ℕ, ◌+◌, ◌*◌, ◌<◌, ◌≤◌, ◌∷◌, [], ◌++◌, inl, inr, List, get_or, length, take, set, map, vec_len, sym, ◌∙◌, refl, ap, ap₂, subst, arith}
+use Rattle.std.proofs.Common.{◌≡◌, ℕ, ◌+◌, ◌*◌, ◌<◌, ◌∷◌, [], inl, inr, List, get_or, take, set, map, vec_len, sym, ◌∙◌, ap, ap₂, subst, arith}
 use Rattle.ring_law.proofs.Exits.{faulted}
 use Rattle.mono_exp.proofs.Lists.{each-at}
 use Rattle.jet_law.specs.Terms.{poly_of}

@@ -1,4 +1,4 @@
-use Rattle.std.proofs.Common.{◌≡◌, ◌+◌, ◌*◌, ◌/◌, ◌%◌, ◌<◌, ◌∷◌, [], length, get_or, All, length-append, refl, sym, ◌∙◌, ap, ap₂, subst, arith}
+use Rattle.std.proofs.Common.{◌+◌, ◌/◌, ◌%◌, ◌∷◌, [], length, get_or, All, length-append, refl, sym, ◌∙◌, ap, subst, arith}
 use Rattle.poly_law.specs.Sums.{unit_at}
 use Rattle.jet_subst.proofs.Tables.{all_push}
 use Rattle.coord_change.proofs.Matrices

@@ -1,4 +1,4 @@
-use Rattle.std.proofs.Common.{◌≡◌, ℕ, ◌+◌, get_or, set, ap, ap₂, sym, ◌∙◌, arith}
+use Rattle.std.proofs.Common.{◌+◌, get_or, set, ap, ap₂, ◌∙◌, arith}
 use Rattle.poly_law.specs.Polynomials.{coefficient_in}
 use Rattle.jet_law.specs.Terms.{poly_of}
 use Rattle.coord_change.specs.Linear.{one_at}

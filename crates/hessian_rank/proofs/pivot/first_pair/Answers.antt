@@ -1,4 +1,4 @@
-use Rattle.std.proofs.Common.{◌≡◌, ℕ, ◌+◌, ◌<◌, get_or, map, drop, Option, Some, None, sym, ap, ◌∙◌, arith}
+use Rattle.std.proofs.Common.{ℕ, ◌+◌, get_or, map, drop, sym, ap, ◌∙◌}
 use Rattle.jet_law.specs.Terms.{poly_of}
 use Rattle.jet_subst.proofs.PowerLemmas.{any_default}
 use Rattle.kill_law.specs.Kill.{first}

@@ -1,4 +1,4 @@
-use Rattle.std.proofs.Common.{◌≡◌, ℕ, ◌+◌, ◌≤◌, get_or, length, sym, ◌∙◌, arith}
+use Rattle.std.proofs.Common.{ℕ, get_or, sym, ◌∙◌}
 use Rattle.jet_law.specs.Terms.{poly_of}
 use Rattle.move_law.specs.Moves.{is_there, pair_exponents}
 use Rattle.hessian_rank.proofs.Pivots.{mapped_here, mapped_later, mapped_end}

@@ -1,4 +1,4 @@
-use Rattle.std.proofs.Common.{◌≡◌, ℕ, ◌<◌, get_or, true, sym, ◌∙◌, arith}
+use Rattle.std.proofs.Common.{ℕ, get_or, sym, ◌∙◌}
 use Rattle.jet_law.specs.Terms.{poly_of}
 use Rattle.jet_subst.proofs.PowerLemmas.{any_default}
 use Rattle.move_law.specs.Moves.{is_there, pair_exponents}

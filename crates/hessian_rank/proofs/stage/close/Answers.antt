@@ -1,10 +1,9 @@
-use Rattle.std.proofs.Common.{rules, ◌≡◌, ◌+◌, ◌∷◌, [], ◌++◌, not, eqb, List, map, refl, sym, ◌∙◌, ap, ap₂, subst}
+use Rattle.std.proofs.Common.{rules, ◌∷◌, [], ◌++◌, not, eqb, List, map, sym, ◌∙◌, ap, ap₂, subst}
 use Rattle.std.specs.List.{filter}
 use Rattle.std.proofs.lemmas.Fn.{filter_same}
 use Rattle.ring_law.proofs.Exits.{fault_handed_on}
 use Rattle.jet_poly.specs.Jets.{whole}
 use Rattle.coord_change.specs.Changes.{entry_of}
-use Rattle.move_law.specs.Moves.{over}
 use Rattle.move_law.specs.Work as work
 use Rattle.move_law.specs.Work.{IsWorkHigh}
 use Rattle.move_law.specs.Hessian.{others, entry, double, completing, moved_work}

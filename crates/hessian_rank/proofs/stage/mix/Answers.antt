@@ -1,7 +1,7 @@
-use Rattle.std.proofs.Common.{◌≡◌, ◌≢◌, ℕ, ◌+◌, ◌*◌, ◌<◌, ◌++◌, Some, None, List, length, vec_len, set, sym, ◌∙◌, ap, ap₂, subst, arith}
+use Rattle.std.proofs.Common.{◌≡◌, ℕ, ◌+◌, ◌*◌, ◌<◌, Some, None, List, vec_len, set, sym, ap, ap₂, subst, arith}
 use Rattle.ring_law.proofs.Exits.{fault_handed_on}
 use Rattle.coord_change.proofs.Matrices
-use Rattle.move_law.specs.Hessian.{moved, mixing, close, next_square, moved_work, close_work, next_work}
+use Rattle.move_law.specs.Hessian.{moved, mixing, close, moved_work, close_work}
 use Rattle.move_law.specs.Work.{IsWorkHigh}
 use Rattle.split_lemma.specs.Splits.{AnyHigh}
 use Rattle.hessian_rank.specs.Sound.{Has}

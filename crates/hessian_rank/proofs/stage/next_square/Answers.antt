@@ -1,4 +1,4 @@
-use Rattle.std.proofs.Common.{◌≡◌, Some, None, sym, ◌∙◌, ap, subst, IfOk, arith}
+use Rattle.std.proofs.Common.{Some, None, sym, subst, IfOk, arith}
 use Rattle.ring_law.specs.Refusals.{OnFault}
 use Rattle.split_lemma.specs.Splits.{AnyHigh}
 use Rattle.hessian_rank.specs.Stages.{stage_of, IsStageFor}

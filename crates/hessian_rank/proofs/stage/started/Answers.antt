@@ -1,4 +1,4 @@
-use Rattle.std.proofs.Common.{◌≡◌, ℕ, ◌+◌, ◌<◌, ◌≤◌, ◌∷◌, [], ◌++◌, sym, ◌∙◌, ap, subst, arith}
+use Rattle.std.proofs.Common.{◌≡◌, ℕ, ◌<◌, ◌∷◌, [], ◌++◌, ◌∙◌, ap, subst, arith}
 use Rattle.poly_law.specs.Exps.{variable}
 use Rattle.poly_law.specs.ExpList.{exps}
 use Rattle.poly_law.specs.Polynomials.{term_in}
