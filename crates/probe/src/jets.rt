@@ -9,8 +9,7 @@ use crate::words::{Stop, Words, is};
 use ext_algebra::Ext;
 use jet_poly::{Jet, add, coef, cut, derivative, from_terms, mul_cut, part, scale};
 use jet_subst::{Kept, keep, powers, product, subst};
-use kill_table::add_term;
-use poly_text::{new_names, put_element, put_monomial, put_polynomial};
+use poly_text::{new_names, put_element, put_polynomial};
 use ring_law::{Field, Frac};
 use std::alloc::Global;
 use text_reader::read_monomial;
@@ -192,29 +191,6 @@ fn jet_of<F: Field<Elem = Ext<Frac>> + Drop>(
     }
 }
 
-// Appends the terms of a polynomial to which the first term of another one is added, each with its monomial before it.
-fn put_sum<F: Field<Elem = Ext<Frac>> + Drop>(
-    alloc: Global,
-    over: &Over<F>,
-    words: &mut Words,
-    out: &mut Vec<u8>,
-) -> Result<(), Stop>
-    requires over { IsOver (F.is_ring over.now.field) (F.meaning over.now.field) over.now.algebra over.now.n over.now.order }
-{
-    let mut terms = over.terms(alloc, words, over.n, 1)?;
-    let added = over.terms(alloc, words, over.n, 1)?;
-    if let Some(t) = added.first() {
-        add_term(&over.field, &mut terms, t.0, t.1)?;
-    }
-    for (m, x) in &terms {
-        out.push(b' ')?;
-        put_monomial(alloc, out, &new_names(), *m)?;
-        out.push(b':')?;
-        put_element(alloc, out, *x)?;
-    }
-    Ok(())
-}
-
 // Appends the powers of a jet, up to the exponent that the next word says.
 fn put_powers<F: Field<Elem = Ext<Frac>> + Drop>(
     alloc: Global,
@@ -260,8 +236,6 @@ pub(crate) fn calculate<F: Field<Elem = Ext<Frac>> + Drop>(
         put_powers(alloc, over, words, out)
     } else if is(command, b"coefficient") {
         put_coefficient(alloc, over, words, out)
-    } else if is(command, b"add-term") {
-        put_sum(alloc, over, words, out)
     } else {
         let h = jet_of(alloc, command, over, words)?;
         Ok(put_polynomial(alloc, out, &new_names(), &h)?)
