@@ -1,0 +1,5 @@
+use Rattle.std.proofs.Common.{◌≡◌, length, rules}
+use Rattle.determinator.proofs.jet.see_exponents.Goals as goal
+
+pub returns : goal.returns
+returns c = search rules

@@ -1,0 +1,9 @@
+pub mod Jets
+pub mod Reports
+pub mod Places
+pub mod Carried
+pub mod Turns
+pub mod Starts
+pub mod Answered
+pub mod Naming
+pub mod Lines

@@ -1,0 +1,46 @@
+-- The beginning of the run.
+use Rattle.std.specs.Prelude.{◌≡◌, ℕ, ◌≤◌, true, false, List, [], ◌∷◌}
+use Rattle.ring_theory.specs.Rational.{Rational}
+use Rattle.ring_theory.specs.Height.{rational_scalars}
+use Rattle.ring_law.specs.declared.fraction.Frac.{Frac}
+use Rattle.ring_law.specs.Fraction.{rational_meaning}
+use Rattle.ext_algebra.specs.declared.algebra.Algebra.TheVariants as algebras
+use Rattle.ext_algebra.specs.declared.algebra.Ext.{Ext}
+use Rattle.ext_algebra.specs.Algebra.{algebra_meaning}
+use Rattle.poly_law.specs.Polynomials.{Polynomial, StartsAtIn}
+use Rattle.jet_law.specs.Canonical.{jet}
+use Rattle.jet_poly.specs.JetTerms.{JetTerms}
+use Rattle.jet_poly.specs.Jets.{IsJet, polynomial_of}
+use Rattle.move_law.specs.Algebras.{lifted}
+use Rattle.coord_change.specs.Chains.{ChainParts, IsChain}
+use Rattle.poly_text.specs.declared.name.Name.{Name}
+use Rattle.plan_law.specs.Plan.{first_move, corank_of_germ, started}
+use Rattle.planned_law.specs.Planned.{is_unbuilt}
+use Rattle.determinator.specs.Turns.{IsStep}
+use Rattle.determinator.specs.declared.start.Begun.{Begun}
+use Rattle.determinator.specs.declared.start.Begun.TheVariants as begun
+
+-- f is the jet of the germ g
+pub record IsJetOfGerm (f : JetTerms Frac) (g : Polynomial f.n Rational) : Type 0 where
+  pub polynomial : polynomial_of rational_meaning f ≡ jet f.n rational_scalars f.order g
+  pub low : StartsAtIn f.n rational_scalars.ops 2 g
+
+-- the jet of a critical germ, in one to eight variables, of order 3 to 16
+pub record IsGermJet (f : JetTerms Frac) : Type 0 where
+  pub jet : IsJet rational_meaning f
+  pub given : 1 ≤ f.n
+  pub at_most_8_variables : f.n ≤ 8
+  pub order_at_least_3 : 3 ≤ f.order
+  pub order_at_most_16 : f.order ≤ 16
+  pub low : StartsAtIn f.n rational_scalars.ops 2 (polynomial_of rational_meaning f)
+  pub germ : Polynomial f.n Rational
+  pub germ_is : IsJetOfGerm f germ
+
+-- the chain of order 2 over the germ g, with the move of the Hessian
+abbrev pub IsFirstChain : (f : JetTerms Frac) → Polynomial f.n Rational → ChainParts (Ext Frac) → Type 0
+IsFirstChain f g c = IsChain (algebra_meaning algebras.Rational) f.n f.order (lifted algebras.Rational g) 2 (first_move f.n g ∷ []) c
+
+-- how the run of the germ g begins: with the first step of the plan; or not at all, in corank 2 and 3
+abbrev pub IsBegun : List Name → (f : JetTerms Frac) → Polynomial f.n Rational → Begun → Type 0
+IsBegun names f g (begun.First r) = (is_unbuilt (corank_of_germ f.n g) ≡ false) × (r.corank ≡ corank_of_germ f.n g) × IsStep names f.n (corank_of_germ f.n g) f.order g 2 (started f.n g) r.step
+IsBegun names f g begun.Unbuilt = is_unbuilt (corank_of_germ f.n g) ≡ true

@@ -1,0 +1,140 @@
+//! The answers in which a run ends without a name.
+
+ghost use Rattle.std.specs.Prelude.{◌≡◌, ℕ, ◌≤◌, List, IfOk, All};
+ghost use Rattle.ring_theory.specs.Rational.{Rational};
+ghost use Rattle.ring_law.specs.Refusals.{OnFault};
+ghost use Rattle.poly_law.specs.Polynomials.{Polynomial};
+ghost use Rattle.ext_algebra.specs.Algebra.{Value, IsFieldAlgebra};
+ghost use Rattle.ext_algebra.specs.declared.algebra.Algebra.TheVariants as algebras;
+ghost use Rattle.cert_text.specs.declared.report.Phase.TheVariants as phases;
+ghost use Rattle.coord_change.specs.Moves.{Move};
+ghost use Rattle.normal_forms.specs.declared.pattern.Pattern.TheVariants as patterns;
+ghost use Rattle.coord_change.specs.Chains.{carried_in};
+ghost use Rattle.plan_law.specs.Outcomes as outcomes;
+ghost use Rattle.plan_law.specs.Pieces.{HasHigh};
+ghost use Rattle.plan_law.specs.Run.{brought, carried_by, composing_pieces};
+ghost use Rattle.determinator.specs.Carried.{IsCarriedFrom, IsWithoutResidual};
+ghost use Rattle.determinator.specs.Jets.{IsListed, IsFailureFor};
+ghost use Rattle.determinator.specs.Places.{IsPlace, IsPlaced};
+ghost use Rattle.determinator.specs.Reports.{AreNames, IsReport};
+
+use crate::jet::{see_places, see_terms};
+use cert_text::{Answer, Carried, Limit, Outside};
+use coord_change::{Chain, composite};
+use ext_algebra::{Algebra, AlgebraField, Ext};
+use jet_poly::Jet;
+use mono_exp::Exp;
+use normal_forms::Pattern;
+use poly_text::Name;
+use ring_law::{Fault, Frac};
+use sqlite_items::Items;
+use std::alloc::{AllocError, Global};
+
+// A copy of a jet.
+fn copy(alloc: Global, f: &Jet<Ext<Frac>>) -> Result<Jet<Ext<Frac>>, AllocError>
+    ensures { IfOk result (λ h. h ≡ f.now) }
+{
+    let mut terms = Vec::new(alloc);
+    for t in f.terms() {
+        terms.push(*t)?;
+    }
+    Ok(Jet::from_rising(f.n(), f.order(), terms))
+}
+
+// The terms of each of the jets stand in order, with eight exponents each.
+fn see_jets(jets: &[Jet<Ext<Frac>>])
+    ensures { All IsListed jets.now }
+{
+    for jet in jets {
+        see_terms(jet);
+    }
+}
+
+/// The germ carried by the moves of a chain, with their composite.
+///
+/// Errors: `Range` only where composing the moves forms a number of height 2^120 or more.
+pub fn carried_of(
+    alloc: Global,
+    names: &[Name],
+    algebra: Algebra,
+    corank: u8,
+    chain: &Chain<Ext<Frac>>,
+) -> Result<Carried, Fault>
+    requires field { IsFieldAlgebra algebra }
+    requires placed { IsPlaced corank algebra chain.now }
+    ensures carried { IfOk result (λ r. (n last o : ℕ) (germ : Polynomial n Rational) (moves : List (Move n (Value algebra)))
+        → IsPlace n corank last germ algebra o moves chain.now → IsCarriedFrom names.now n corank algebra o moves chain.now r) }
+    ensures range { OnFault result ((n last o : ℕ) (germ : Polynomial n Rational) (moves : List (Move n (Value algebra)))
+        → IsPlace n corank last germ algebra o moves chain.now → HasHigh phases.Finish (composing_pieces algebra o moves)) }
+{
+    let field = AlgebraField { algebra };
+    let change = composite(chain, alloc, &field)?;
+    see_jets(change.parts.as_slice());
+    let jet = copy(alloc, chain.carried())?;
+    see_terms(&jet);
+    let names = Items::from_slice(alloc, names)?;
+    let order = jet.order();
+    Ok(Carried {
+        names,
+        algebra,
+        order,
+        corank,
+        change,
+        jet,
+    })
+}
+
+/// The answer where Mather's test fails at the last order.
+///
+/// Errors: `Range` only where composing the moves forms a number of height 2^120 or more.
+pub fn limited(
+    alloc: Global,
+    names: &[Name],
+    algebra: Algebra,
+    corank: u8,
+    chain: &Chain<Ext<Frac>>,
+    functional: Items<(Exp, Ext<Frac>)>,
+    at: Exp,
+) -> Result<Answer, Fault>
+    requires field { IsFieldAlgebra algebra }
+    requires placed { IsPlaced corank algebra chain.now }
+    requires few { corank ≤ 3 }
+    requires failure { IsFailureFor algebra corank (carried_in chain.now) functional at }
+    ensures report { IfOk result (λ r. (n o : ℕ) (germ : Polynomial n Rational) (moves : List (Move n (Value algebra))) → AreNames n names.now → 3 ≤ o
+        → IsPlace n corank o germ algebra o moves chain.now → IsReport names.now n o germ r (outcomes.limit (carried_by n corank germ algebra o moves (brought n corank germ algebra o moves)))) }
+    ensures range { OnFault result ((n last o : ℕ) (germ : Polynomial n Rational) (moves : List (Move n (Value algebra)))
+        → IsPlace n corank last germ algebra o moves chain.now → HasHigh phases.Finish (composing_pieces algebra o moves)) }
+{
+    see_places(functional.as_slice());
+    let carried = carried_of(alloc, names, algebra, corank, chain)?;
+    Ok(Answer::Limit(Limit {
+        carried,
+        at,
+        functional,
+    }))
+}
+
+/// The answer where the germ has corank 4 or more.
+///
+/// Errors: `Range` only where composing the moves forms a number of height 2^120 or more.
+pub fn outside(
+    alloc: Global,
+    names: &[Name],
+    corank: u8,
+    chain: &Chain<Ext<Frac>>,
+) -> Result<Answer, Fault>
+    requires field { IsFieldAlgebra algebras.Rational }
+    requires placed { IsPlaced corank algebras.Rational chain.now }
+    requires many { 4 ≤ corank }
+    ensures report { IfOk result (λ r. (n last : ℕ) (germ : Polynomial n Rational) (moves : List (Move n Rational)) → AreNames n names.now
+        → IsPlace n corank last germ algebras.Rational 2 moves chain.now → IsWithoutResidual n corank (brought n corank germ algebras.Rational 2 moves)
+        → IsReport names.now n last germ r (outcomes.outside patterns.O (carried_by n corank germ algebras.Rational 2 moves (brought n corank germ algebras.Rational 2 moves)))) }
+    ensures range { OnFault result ((n last o : ℕ) (germ : Polynomial n Rational) (moves : List (Move n Rational))
+        → IsPlace n corank last germ algebras.Rational o moves chain.now → HasHigh phases.Finish (composing_pieces algebras.Rational o moves)) }
+{
+    let carried = carried_of(alloc, names, Algebra::Rational, corank, chain)?;
+    Ok(Answer::Outside(Outside {
+        pattern: Pattern::O,
+        carried,
+    }))
+}
