@@ -1,7 +1,7 @@
 -- The answers of Mather's test and of the quotient, at the order k of a jet g in at most one variable, as rows, basis and table of a report whose residual part is g.
 use mathlib.Core.Path.{fun_ext}
-use Rattle.std.proofs.Common.{◌≡◌, ◌≢◌, ℕ, zero, suc, ◌+◌, ◌<◌, ◌≤◌, ◌⊎◌, inl, inr, Bool, true, false, not, cond, ◌&&◌, pos, int_eq, List, [], ◌∷◌, ◌++◌, map, length, get_or, sum, Option, Some, None, refl, sym, ap, subst, ◌∙◌, arith, le-leb}
-use Rattle.std.specs.Prelude.{nat_le, find, unwrap_or}
+use Rattle.std.proofs.Common.{◌≡◌, ◌≢◌, ℕ, zero, suc, ◌+◌, ◌<◌, ◌≤◌, ◌⊎◌, inl, inr, Bool, true, false, not, cond, ◌&&◌, pos, int_eq, List, [], ◌∷◌, ◌++◌, map, length, get_or, sum, refl, sym, ap, subst, ◌∙◌, arith, le-leb}
+use Rattle.std.specs.Prelude.{nat_le}
 use Rattle.std.specs.List.{All, AllByRecursion, filter, list_all}
 use Rattle.std.proofs.lemmas.List.{length-map}
 use Rattle.std.proofs.lemmas.List.Elements.{All-head, All-tail}
@@ -42,7 +42,6 @@ use Rattle.milnor_alg.specs.declared.quotient.TableRow.{TableRow}
 use Rattle.jet_quotient.specs.Quotients as quotients
 use Rattle.jet_quotient.proofs.AnswerFacts.{degrees_low}
 use Rattle.normal_forms.specs.Monomials.{in_eight}
-use Rattle.normal_forms.specs.Monomials as reported
 use Rattle.normal_forms.proofs.Padded.{in_eight-in}
 use Rattle.poly_text.specs.declared.name.Name.{Name}
 use Rattle.cert_text.specs.declared.report.Carried.{Carried}
@@ -51,8 +50,9 @@ use Rattle.cert_text.specs.WellFormed as texts
 use Rattle.cert_text.specs.WellFormed.{is_zero_element, is_term_of, is_residual_monomial, list_limit}
 use Rattle.jet_law.specs.Canonical.{monomial_in}
 use Rattle.report_law.specs.Polynomials.{terms_in, jet_at, value_at, zero_element}
-use Rattle.report_law.specs.Items.{residual_of, row_of, basis_of, values_of_row, multipliers_of_row, IsRowOf, AreMatherRows, IsMilnorTable}
-use Rattle.report_law.proofs.Listing.{same_monomials, same_monomials_to, listed_as}
+use Rattle.milnor_alg.specs.Rows.{row_of}
+use Rattle.report_law.specs.Items.{residual_of, basis_of, values_of_row, multipliers_of_row, IsRowOf, AreMatherRows, IsMilnorTable}
+use Rattle.report_law.proofs.Listing.{listed_as}
 use Rattle.report_law.proofs.Splitting.{and_both}
 use Rattle.coord_change.specs.declared.change.Change.{Change}
 use Rattle.report_jet.proofs.ReportJets.{get_or-values}
@@ -61,11 +61,6 @@ use Rattle.determinator.proofs.Listing.{none_without_variables, one_at_most, few
 use Rattle.determinator.proofs.ReportParts.{by_default, list_passes, jet_of_report}
 
 -- ---- entries of lists, by their values
-
--- what is found has the same value by two defaults of the same value
-found_or : {X Y : Type 0} (f : X → Y) (o : Option X) (d e : X) → f d ≡ f e → f (unwrap_or o d) ≡ f (unwrap_or o e)
-found_or f None d e h = h
-found_or f (Some x) d e h = refl
 
 -- what holds of each element gives what holds of each image
 each_image : {X Y : Type 0} (P : X → Type 0) (Q : Y → Type 0) (f : X → Y) → ((x : X) → P x → Q (f x)) → (xs : List X) → AllByRecursion P xs → AllByRecursion Q (map f xs)
@@ -107,10 +102,9 @@ module _ (a : Algebra) (k : ℕ) (within : k ≤ 16) (g : JetTerms (Ext Frac)) (
         let c = one_at_most g.n k few in
         omega arith
 
-    monomials_are : map (λ row. row.monomial) rows ≡ map in_eight (reported.monomials_of g.n (k + 1))
+    monomials_are : map (λ row. row.monomial) rows ≡ map in_eight (monomials_of g.n (k + 1))
     monomials_are =
         listed_as g.n (map (λ row. row.monomial) rows) (monomials_of g.n (k + 1)) (each_image (tests.IsRow (meaning a) g k) (IsMonomialIn g.n) (λ row. row.monomial) (λ row h. h.monomial) rows are.each) (list rows ∙ are.monomials)
-        ∙ ap (map in_eight) (sym (same_monomials g.n (k + 1)))
       where
         list : (rs : List (MatherRow (Ext Frac))) → map (λ a. exponents g.n a.e) (map (λ row. row.monomial) rs) ≡ map (λ row. exponents g.n row.monomial.e) rs
         list [] = refl
@@ -305,19 +299,15 @@ module _ (a : Algebra) (k : ℕ) (within : k ≤ 16) (g : JetTerms (Ext Frac)) (
 
         values_same : quotients.values_at (meaning a) g.n q.table ≡ values_of_row R
         values_same = fun_ext λ m. fun_ext λ j.
-            found_or (λ (row : TableRow (Ext Frac)). get_or (map (value_in a) row.values) j (ops a).zero) (find (λ row. same (exps g.n) (exp_of g.n row.monomial) m) q.table)
-            (record { monomial = record { e = [] }; values = []; multipliers = [] }) (record { monomial = in_eight []; values = []; multipliers = [] }) refl
-            ∙ get_or-values a (row_of g.n q.table m).values j
+            get_or-values a (row_of g.n q.table m).values j
 
         multipliers_same : quotients.multipliers_at (meaning a) g.n q.table ≡ multipliers_of_row R
         multipliers_same = fun_ext λ m.
-            found_or (λ (row : TableRow (Ext Frac)). polynomial_at g.n (value_in a) row.multipliers) (find (λ row. same (exps g.n) (exp_of g.n row.monomial) m) q.table)
-            (record { monomial = record { e = [] }; values = []; multipliers = [] }) (record { monomial = in_eight []; values = []; multipliers = [] }) refl
-            ∙ jets_same a g.n (row_of g.n q.table m).multipliers
+            jets_same a g.n (row_of g.n q.table m).multipliers
 
         pub table_is : IsMilnorTable R
         table_is = record {
-          monomials = listed_as g.n (map (λ row. row.monomial) q.table) (monomials_below g.n (k + 1)) (all_in low q is) (list low q is q.table ∙ is.monomials) ∙ ap (map in_eight) (sym (same_monomials_to g.n k ∙ ap (monomials_below g.n) (let e : suc k ≡ k + 1 = omega arith in e)));
+          monomials = listed_as g.n (map (λ row. row.monomial) q.table) (monomials_below g.n (k + 1)) (all_in low q is) (list low q is q.table ∙ is.monomials);
           quotient =
               subst (λ f. IsQuotientTable (exps g.n) (ops a) k f (length q.basis) (basis_of R) (values_of_row R) (multipliers_of_row R)) (sym residual)
               (subst (λ b. IsQuotientTable (exps g.n) (ops a) k (polynomial_of (meaning a) g) (length q.basis) b (values_of_row R) (multipliers_of_row R)) basis_same

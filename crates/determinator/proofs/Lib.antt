@@ -18,6 +18,7 @@ mod Carrying
 mod GermReports
 mod Reading
 mod NameReports
+mod Reporting
 mod TestLemmas
 mod LiftLemmas
 mod LineAnswers

@@ -1,42 +1,36 @@
 -- How many monomials of a degree there are in at most one variable, and the test of a report's monomials.
-use Rattle.std.proofs.Common.{◌≡◌, ℕ, zero, suc, ◌+◌, ◌-◌, ◌<◌, ◌≤◌, List, [], ◌∷◌, ◌++◌, map, flat_map, length, drop, refl, sym, ap, ◌∙◌, arith, true, eq-eqb}
+use Rattle.std.proofs.Common.{◌≡◌, ℕ, zero, suc, ◌+◌, ◌-◌, ◌≤◌, List, [], ◌∷◌, ◌++◌, map, flat_map, length, drop, ap, ◌∙◌, arith, true, eq-eqb}
 use Rattle.std.specs.Prelude.{◌==◌}
 use Rattle.std.specs.List.{list_all}
 use Rattle.mono_exp.specs.declared.exponent.Exp.{Exp}
-use Rattle.mono_exp.specs.Exponents as monomials
+use Rattle.mono_exp.specs.Exponents.{numbers_below, monomials_of, monomials_below}
+use Rattle.mono_exp.proofs.Lists.{flat_map-append}
 use Rattle.mono_exp.proofs.Counting.{count_below, count-more, count-none, count-one}
 use Rattle.mono_exp.proofs.Table.{length-monomials_below}
-use Rattle.normal_forms.specs.Monomials.{monomials_of, down_from}
 use Rattle.determinacy.specs.Tests.{IsMonomialIn}
 use Rattle.cert_text.specs.WellFormed.{is_monomial_in}
-use Rattle.report_law.proofs.Listing.{same_monomials}
 use Rattle.report_law.proofs.Splitting.{and_both, all_zero_past}
 
--- in no variable there is no monomial of positive degree
-none_of : (d : ℕ) → monomials_of 0 (d + 1) ≡ []
-none_of d = ap (monomials_of 0) (let e : d + 1 ≡ suc d = omega arith in e)
-
-none_left : (d n : ℕ) → n < d → flat_map (λ e. map (λ m. e ∷ m) (monomials_of 0 (d - e))) (down_from n) ≡ []
-none_left d zero h = ap (λ k. map (λ m. 0 ∷ m) (monomials_of 0 k) ++ []) (let k : d - 0 ≡ suc (d - 1) = omega arith in k)
-none_left d (suc n) h =
-    ap (λ k. map (λ m. suc n ∷ m) (monomials_of 0 k) ++ flat_map (λ e. map (λ m. e ∷ m) (monomials_of 0 (d - e))) (down_from n)) (let k : d - suc n ≡ suc (d - suc n - 1) = omega arith in k)
-    ∙ none_left d n (omega arith)
+-- the monomial x^d is at the front, and no other one follows
+up_to : (d k : ℕ) → flat_map (λ j. map (λ m. (d - j) ∷ m) (monomials_of 0 j)) (numbers_below (suc k)) ≡ (d ∷ []) ∷ []
+unfolding monomials_of
+up_to d zero = ap (λ e. (e ∷ []) ∷ []) (let e : d - 0 ≡ d = omega arith in e)
+up_to d (suc k) = flat_map-append (λ j. map (λ m. (d - j) ∷ m) (monomials_of 0 j)) (numbers_below (suc k)) (suc k ∷ []) ∙ ap (λ l. l ++ []) (up_to d k)
 
 -- in one variable there is one monomial of each degree
 pub powers_of : (d : ℕ) → monomials_of 1 d ≡ (d ∷ []) ∷ []
-powers_of zero = refl
-powers_of (suc n) =
-    ap (λ k. map (λ m. suc n ∷ m) (monomials_of 0 k) ++ flat_map (λ e. map (λ m. e ∷ m) (monomials_of 0 (suc n - e))) (down_from n)) (let k : suc n - suc n ≡ 0 = omega arith in k)
-    ∙ ap (λ l. (suc n ∷ []) ∷ l) (none_left (suc n) n (omega arith))
+unfolding monomials_of
+powers_of d = up_to d d
 
 -- no monomial of positive degree in no variable
-pub none_without_variables : (k : ℕ) → monomials.monomials_of 0 (k + 1) ≡ []
-none_without_variables k = sym (same_monomials 0 (k + 1)) ∙ none_of k
+pub none_without_variables : (k : ℕ) → monomials_of 0 (k + 1) ≡ []
+unfolding monomials_of
+none_without_variables k = ap (monomials_of 0) (let e : k + 1 ≡ suc k = omega arith in e)
 
 -- at most one monomial of a positive degree
-pub one_at_most : (n k : ℕ) → n ≤ 1 → length (monomials.monomials_of n (k + 1)) ≤ 1
+pub one_at_most : (n k : ℕ) → n ≤ 1 → length (monomials_of n (k + 1)) ≤ 1
 one_at_most zero k h = let e = ap (λ (l : List (List ℕ)). length l) (none_without_variables k) in omega arith
-one_at_most (suc zero) k h = let e = ap (λ (l : List (List ℕ)). length l) (sym (same_monomials 1 (k + 1)) ∙ powers_of (k + 1)) in omega arith
+one_at_most (suc zero) k h = let e = ap (λ (l : List (List ℕ)). length l) (powers_of (k + 1)) in omega arith
 one_at_most (suc (suc n)) k h = absurd (omega arith)
 
 -- and d of degree below d
@@ -45,7 +39,7 @@ count_powers zero = count-none 1
 count_powers (suc d) = let a = count-more 0 d in let b = count-one d in let h = count_powers d in omega arith
 
 -- at most k + 1 monomials of degree at most k
-pub few_below : (n k : ℕ) → n ≤ 1 → length (monomials.monomials_below n (k + 1)) ≤ k + 1
+pub few_below : (n k : ℕ) → n ≤ 1 → length (monomials_below n (k + 1)) ≤ k + 1
 few_below zero k h = let a = length-monomials_below 0 (k + 1) in let b = count-one k in let c : count_below 0 (k + 1) ≡ count_below 0 (suc k) = ap (count_below 0) (let e : k + 1 ≡ suc k = omega arith in e) in omega arith
 few_below (suc zero) k h = let a = length-monomials_below 1 (k + 1) in let b = count_powers (k + 1) in omega arith
 few_below (suc (suc n)) k h = absurd (omega arith)

@@ -5,6 +5,7 @@ ghost use Rattle.ring_theory.specs.Rational.{Rational};
 ghost use Rattle.poly_law.specs.Polynomials.{Polynomial};
 ghost use Rattle.ext_algebra.specs.Algebra.{IsFieldAlgebra};
 ghost use Rattle.ext_algebra.specs.declared.algebra.Algebra.TheVariants as algebras;
+ghost use Rattle.poly_text.specs.declared.name.Name.{Name};
 ghost use Rattle.coord_change.specs.Moves.{Move};
 ghost use Rattle.plan_law.specs.Run as run;
 ghost use Rattle.plan_law.specs.Run.{searching};
