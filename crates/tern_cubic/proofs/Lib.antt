@@ -1,3 +1,4 @@
+mod Hessians
 mod KernelLemmas
 mod CubicJets
 mod Multiples

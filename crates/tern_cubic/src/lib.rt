@@ -1,12 +1,14 @@
-//! Ternary cubics over the rational numbers: as jets, the rows of their partials and of the products
-//! of these with the quadratic monomials, kernels and ranks of rows. The coefficients of a cubic
-//! stand in the monomial order, from `x^3` to `z^3`.
+//! Ternary cubics over the rational numbers: as jets, the Hessian determinant, the rows of their
+//! partials and of the products of these with the quadratic monomials, kernels and ranks of rows.
+//! The coefficients of a cubic stand in the monomial order, from `x^3` to `z^3`.
 #![tactic(auto)]
 
 mod cubic;
+mod hessian;
 mod kernel;
 mod rows;
 
 pub use cubic::cubic_jet;
+pub use hessian::hessian3;
 pub use kernel::{Kernel, kernel_of, rank_of};
 pub use rows::{partial_rows, product_rows};
