@@ -1,4 +1,4 @@
-//! Mather's test and the quotient of the germs of lines.
+//! Mather's test, the quotient and the move of the Hessian of the germs of lines.
 
 ghost use Rattle.std.specs.Prelude.{◌≡◌, ◌≤◌, true, IfOk};
 ghost use Rattle.poly_law.specs.Polynomials.{StartsAtIn};
@@ -7,12 +7,13 @@ ghost use Rattle.jet_poly.specs.Jets.{IsJet, polynomial_of};
 
 use crate::words::{Stop, Words, is};
 use determinacy::{MatherTest, mather};
+use hessian_rank::diagonalise;
 use jet_poly::{Jet, JetOf};
 use jet_quotient::quotient;
 use line_germ::{Read, read_line};
 use line_io::MAX_LINE;
 use mono_exp::degree;
-use poly_text::put_number;
+use poly_text::{put_fraction, put_number};
 use ring_law::{Frac, Ring};
 use small_frac::Rationals;
 use std::alloc::Global;
@@ -67,7 +68,33 @@ fn put_sizes(alloc: Global, out: &mut Vec<u8>, f: &Jet<Frac>) -> Result<(), Stop
     Ok(put_number(out, algebra.table.len() as u64)?)
 }
 
-/// Appends the answer of Mather's test, or the sizes of the quotient, of the germ of a critical line at an order from 3 to 16.
+// Appends a semicolon and fractions, each behind a space.
+fn put_list(out: &mut Vec<u8>, fractions: &[Frac]) -> Result<(), Stop> {
+    out.extend_from_slice(b" ;")?;
+    for q in fractions {
+        out.push(b' ')?;
+        put_fraction(out, *q)?;
+    }
+    Ok(())
+}
+
+// Appends the corank of a jet, the coefficients of the squares of the last variables after the move of the Hessian, and the matrix of this move turned round.
+fn put_hessian(alloc: Global, out: &mut Vec<u8>, f: &Jet<Frac>) -> Result<(), Stop>
+    requires jet { IsJet rational_meaning f.now }
+    requires at_most_8_variables { f.now.n ≤ 8 }
+    requires order_at_least_2 { 2 ≤ f.now.order }
+    requires order_at_most_16 { f.now.order ≤ 16 }
+{
+    if f.n() == 0 || !starts_at_two(&Rationals, f) {
+        return Err(Stop::Words);
+    }
+    let diagonal = diagonalise(alloc, f)?;
+    put_number(out, u64::from(diagonal.corank))?;
+    put_list(out, diagonal.squares.as_slice())?;
+    put_list(out, diagonal.change.inverse.as_slice())
+}
+
+/// Appends the answer of Mather's test, the sizes of the quotient, or what the move of the Hessian leaves, of the germ of a critical line at an order from 3 to 16.
 pub(crate) fn calculate(
     alloc: Global,
     command: &[u8],
@@ -89,6 +116,8 @@ pub(crate) fn calculate(
         put_test(alloc, out, &germ.jet)
     } else if is(command, b"quotient") {
         put_sizes(alloc, out, &germ.jet)
+    } else if is(command, b"hessian") {
+        put_hessian(alloc, out, &germ.jet)
     } else {
         Err(Stop::Words)
     }
