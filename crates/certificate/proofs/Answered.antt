@@ -7,16 +7,15 @@ use Rattle.std.specs.List.{All, AllByRecursion, filter, list_all}
 use Rattle.std.proofs.lemmas.List.{length-map, length-append}
 use Rattle.std.proofs.lemmas.List.Concat.{flat_map-append}
 use Rattle.std.proofs.lemmas.List.Elements.{All-head, All-tail}
-use Rattle.ring_theory.specs.Scalars.{Meaning, ScalarLaws}
+use Rattle.ring_theory.specs.Scalars.{Meaning}
 use Rattle.ring_theory.specs.Ring.{RingOps, IsCommRing}
-use Rattle.ring_theory.specs.Rational.{rational}
 use Rattle.ring_law.specs.declared.fraction.Frac.{Frac}
 use Rattle.ring_law.specs.Fraction.{IsFrac, frac_value}
 use Rattle.ext_algebra.specs.declared.algebra.Algebra.{Algebra}
 use Rattle.ext_algebra.specs.declared.algebra.Algebra.TheVariants as algebras
 use Rattle.ext_algebra.specs.declared.algebra.Ext.{Ext}
 use Rattle.ext_algebra.specs.Fractions.{is_zero_frac}
-use Rattle.ext_algebra.specs.Algebra.{Value, IsElement, IsIrreducible, IsFieldAlgebra, is_element, ops, scalars, value_in, sextic_of, algebra_meaning}
+use Rattle.ext_algebra.specs.Algebra.{Value, IsElement, IsIrreducible, IsFieldAlgebra, is_element, ops, scalars, value_in, algebra_meaning}
 use Rattle.ext_algebra.specs.AlgebraLaws.{algebra_scalar_laws}
 use Rattle.ext_algebra.proofs.ElementTests.{is_element-IsElement}
 use Rattle.ring_law.proofs.FractionLaws.{zero_value}
@@ -33,7 +32,7 @@ use Rattle.poly_law.proofs.ExpLists.{exps_are}
 use Rattle.poly_law.proofs.ExpLaws
 use Rattle.poly_law.proofs.Order
 use Rattle.mono_exp.specs.declared.exponent.Exp.{Exp}
-use Rattle.mono_exp.specs.Exponents.{IsIn, exponents, is_before, numbers_below, monomials_of, monomials_below}
+use Rattle.mono_exp.specs.Exponents.{IsIn, exponents, numbers_below, monomials_of, monomials_below}
 use Rattle.mono_exp.proofs.Lists.{Each}
 use Rattle.mono_exp.proofs.Counting.{IsOf, monomials_are_of, count_below, count-le, place, place_below, before-place}
 use Rattle.mono_exp.proofs.Table.{table_counts, length-monomials_below}
@@ -62,13 +61,13 @@ use Rattle.cert_text.specs.declared.report.Carried.{Carried}
 use Rattle.cert_text.specs.declared.report.Named as named_type
 use Rattle.cert_text.specs.WellFormed as texts
 use Rattle.cert_text.specs.WellFormed.{is_zero_element, is_term_of, is_monomial_in, is_low_monomial, is_residual_monomial, is_functional_value, list_limit}
-use Rattle.report_law.specs.Polynomials.{terms_in, jet_at, value_at, zero_element, residual_part}
+use Rattle.report_law.specs.Polynomials.{terms_in, jet_at, value_at, zero_element}
 use Rattle.report_law.specs.Items.{residual_of, basis_of, values_of_row, multipliers_of_row, IsRowOf, AreMatherRows, IsMilnorTable}
 use Rattle.report_law.proofs.Listing.{listed_as}
 use Rattle.line_syntax.proofs.Bools.{and_left, and_right}
 use Rattle.report_law.proofs.Splitting.{and_both, all_zero_past}
 use Rattle.report_jet.proofs.ReportJets.{algebra_valid}
-use Rattle.certificate.specs.Evidence.{AreReportedRows, IsReportedFunctional, IsReportedTest, IsReportedQuotient}
+use Rattle.certificate.specs.Evidence.{IsReportedFunctional, IsReportedTest, IsReportedQuotient}
 
 -- ---- entries of lists, by their values
 

@@ -1,16 +1,16 @@
 -- The modulus line of a form that is read, over the rational numbers or over an extension.
-use Rattle.std.proofs.Common.{◌≡◌, ◌≢◌, ℕ, ◌≤◌, ◌^◌, Bool, true, false, not, ◌&&◌, IsTrue, List, [], ◌∷◌, ◌++◌, map, length, refl, sym, ap, subst, ◌∙◌, arith, true≢false}
+use Rattle.std.proofs.Common.{◌≡◌, ◌≢◌, ◌≤◌, ◌^◌, true, not, ◌&&◌, List, [], ◌∷◌, ◌++◌, map, length, refl, sym, ap, subst, ◌∙◌, arith, true≢false}
 use Rattle.std.specs.List.{All, list_all}
 use Rattle.std.proofs.lemmas.List.Folds.{list_all-append}
 use Rattle.line_syntax.proofs.Bools.{and_left, and_right}
-use Rattle.ring_theory.specs.Rational.{Rational, rational}
+use Rattle.ring_theory.specs.Rational.{Rational}
 use Rattle.ring_theory.specs.Height.{rational_scalars, most}
 use Rattle.ring_theory.proofs.RationalLaws.{rational_scalar_laws}
 use Rattle.ring_law.specs.declared.fraction.Frac.{Frac}
 use Rattle.ext_algebra.specs.declared.algebra.Algebra.{Algebra}
 use Rattle.ext_algebra.specs.declared.algebra.Algebra.TheVariants as algebras
 use Rattle.ext_algebra.specs.declared.algebra.Ext.{Ext}
-use Rattle.ext_algebra.specs.Algebra.{Value, IsElement, is_element, scalars, value_in, algebra_meaning}
+use Rattle.ext_algebra.specs.Algebra.{Value, IsElement, scalars, value_in, algebra_meaning}
 use Rattle.ext_algebra.proofs.ElementTests.{is_element-IsElement, is_frac-IsFrac}
 use Rattle.jet_law.specs.Heights.{IsHigh}
 use Rattle.normal_forms.specs.declared.family.Family.{Family}
@@ -21,13 +21,12 @@ use Rattle.normal_forms.specs.declared.modulus_line.ModulusLine.TheVariants as m
 use Rattle.normal_forms.specs.Families.{corank_of, kind_of}
 use Rattle.normal_forms.specs.Units.{unit_values, quartic_discriminant, triple_discriminant, modulus_heights, AreRational, IsNondegenerate, IsModulus, IsValidModulus}
 use Rattle.normal_forms.specs.Coefficients.{coefficients_in_sum, coefficients_of_squares}
-use Rattle.move_law.specs.Finish as finish
 use Rattle.cert_text.specs.declared.report.Carried.{Carried}
 use Rattle.cert_text.specs.declared.report.Named as named_type
 use Rattle.cert_text.specs.WellFormed.{is_valid_modulus, IsWellFormedCarried}
 use Rattle.report_law.specs.Polynomials.{terms_in, residual_part, coefficient_at}
-use Rattle.report_law.specs.Items.{coefficients_of, IsModulusOf}
-use Rattle.certificate.specs.Readings.{is_read_as, units_in}
+use Rattle.report_law.specs.Items.{coefficients_of}
+use Rattle.certificate.specs.Readings.{is_read_as}
 use Rattle.certificate.specs.Moduli.{HasNoInvariant, IsRationalForm, IsLineHigh, IsModulusHigh, IsLineOf}
 use Rattle.certificate.proofs.Readings.{read_is_form, read_units, units_same, coefficients_of_form}
 

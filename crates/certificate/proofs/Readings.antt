@@ -1,19 +1,18 @@
 -- A jet of a report and its polynomial: the coefficients of a form, those of the squares, and which jets are forms of a family.
 use Rattle.std.proofs.Common.{true≢false, cond, eqb, eqb-true, eq-eqb, ◌≡◌, ◌≢◌, ℕ, zero, suc, ◌+◌, ◌-◌, ◌<◌, ◌≤◌, ◌⊎◌, inl, inr, Bool, true, false, ◌&&◌, ◌||◌, List, [], ◌∷◌, ◌++◌, map, length, get_or, sum, refl, sym, ap, ap₂, subst, ◌∙◌, arith}
 use Rattle.std.specs.List.{All, AllByRecursion, list_all, list_any}
-use Rattle.std.specs.Prelude.{◌==◌, IsTrue, drop, replicate, not, nat_le}
+use Rattle.std.specs.Prelude.{◌==◌, drop, replicate, not, nat_le}
 use Rattle.cert_text.specs.declared.report.Carried.{Carried}
 use Rattle.cert_text.specs.WellFormed.{is_monomial_in, is_term_of, is_zero_element, IsWellFormedCarried}
 use Rattle.report_jet.proofs.ReportJets.{monomial_inside}
 use Rattle.std.specs.Str.{bytes_eq}
-use Rattle.std.proofs.lemmas.List.{ext_get_or, length-map, get_or-map, length-append}
+use Rattle.std.proofs.lemmas.List.{ext_get_or, length-map, get_or-map}
 use Rattle.std.proofs.lemmas.List.Folds.{list_any-append, list_all-append}
-use Rattle.std.proofs.lemmas.List.Elements.{recursion_from_All, All-tail}
+use Rattle.std.proofs.lemmas.List.Elements.{recursion_from_All}
 use Rattle.std.proofs.lemmas.Slice.Eq.{bytes_eq-Decides}
-use Rattle.std.proofs.lemmas.Bool.{leb-true}
 use Rattle.report_law.proofs.Splitting.{and_both}
 use Rattle.line_syntax.proofs.Bools.{and_left, and_right, or_left, or_right, or_other}
-use Rattle.ring_theory.specs.Ring.{RingOps, IsCommRing}
+use Rattle.ring_theory.specs.Ring.{IsCommRing}
 use Rattle.ring_theory.specs.Scalars.{Scalars}
 use Rattle.ring_law.specs.declared.fraction.Frac.{Frac}
 use Rattle.ext_algebra.specs.declared.algebra.Algebra.{Algebra}
@@ -25,12 +24,10 @@ use Rattle.poly_law.specs.Poly.{coefficient}
 use Rattle.poly_law.proofs.ExpLists.{exps_are}
 use Rattle.poly_law.proofs.ExpLaws
 use Rattle.poly_law.proofs.Sums
-use Rattle.poly_law.specs.Polynomials.{Polynomial, coefficient_in}
+use Rattle.poly_law.specs.Polynomials.{coefficient_in}
 use Rattle.mono_exp.specs.declared.exponent.Exp.{Exp}
 use Rattle.mono_exp.specs.Exponents.{IsIn, numbers_below}
 use Rattle.mono_exp.proofs.Lists.{sum-cons, map-map, map-same, Each, numbers_are_below, length-numbers_below, get_or-numbers_below}
-use Rattle.mono_exp.proofs.NumberLemmas.{length-exponents}
-use Rattle.mono_exp.specs.Exponents.{exponents}
 use Rattle.jet_law.specs.Canonical.{monomial_in}
 use Rattle.jet_law.specs.Terms.{exp_of, poly_of}
 use Rattle.jet_poly.proofs.Coefficients

@@ -1,12 +1,12 @@
 -- What is read off a jet that is a form of a family, as units of a report.
-use Rattle.std.proofs.Common.{◌≡◌, ℕ, zero, suc, ◌+◌, ◌-◌, ◌≤◌, ◌<◌, ◌^◌, ◌⊎◌, inl, inr, Bool, true, false, not, ◌&&◌, cond, IsTrue, List, [], ◌∷◌, ◌++◌, map, length, get_or, refl, sym, ap, ap₂, subst, ◌∙◌, arith, true≢false}
+use Rattle.std.proofs.Common.{◌≡◌, ℕ, ◌+◌, ◌-◌, ◌≤◌, ◌<◌, ◌^◌, ◌⊎◌, inl, inr, Bool, true, false, not, ◌&&◌, cond, IsTrue, List, [], ◌∷◌, ◌++◌, map, length, get_or, refl, sym, ap, ap₂, subst, ◌∙◌, arith, true≢false}
 use Rattle.std.specs.Prelude.{Option, Some, IfSome, Vec, drop}
 use Rattle.std.specs.Global.{Global}
 use Rattle.std.specs.List.{All, AllByRecursion, list_all}
 use Rattle.std.proofs.lemmas.List.Elements.{All-tail}
 use Rattle.std.proofs.lemmas.List.{length-map, length-append, length-take-le}
 use Rattle.line_syntax.proofs.Bools.{and_left, and_right}
-use Rattle.ring_theory.specs.Scalars.{Scalars, ScalarLaws}
+use Rattle.ring_theory.specs.Scalars.{Scalars}
 use Rattle.ring_law.specs.declared.fraction.Frac.{Frac}
 use Rattle.ext_algebra.specs.declared.algebra.Ext.{Ext}
 use Rattle.ext_algebra.specs.Algebra.{Value, IsElement, IsInverse, IsIrreducible, is_element, ops, scalars, value_in, algebra_meaning}
@@ -16,7 +16,7 @@ use Rattle.mono_exp.proofs.Lists.{map-map, length-numbers_below}
 use Rattle.lin_row.specs.Plain.{Among}
 use Rattle.normal_forms.specs.declared.family.Family.{Family}
 use Rattle.normal_forms.specs.declared.family.Family.TheVariants as families
-use Rattle.normal_forms.specs.Families.{is_family, corank_of, sum_of, kind_of}
+use Rattle.normal_forms.specs.Families.{is_family, sum_of, kind_of}
 use Rattle.normal_forms.specs.Forms.{IsFormOf}
 use Rattle.normal_forms.specs.declared.kind.Kind.{Kind}
 use Rattle.normal_forms.specs.declared.kind.Kind.TheVariants as kinds
@@ -31,7 +31,7 @@ use Rattle.move_law.specs.Work.{IsWorkHigh}
 use Rattle.cert_text.specs.declared.report.Carried.{Carried}
 use Rattle.cert_text.specs.declared.report.Named as named_type
 use Rattle.cert_text.specs.WellFormed.{is_unit_pair, list_limit, IsWellFormedCarried}
-use Rattle.report_law.specs.Items.{coefficients_of, squares_of, AreUnits, IsForm}
+use Rattle.report_law.specs.Items.{coefficients_of, squares_of}
 use Rattle.report_law.proofs.Splitting.{and_both}
 use Rattle.certificate.specs.Readings.{is_read_as, units_in, AreUnitsRead, IsUnitHigh}
 use Rattle.certificate.proofs.Inverses.{inverse_valid}

@@ -7,7 +7,7 @@ use Rattle.ext_algebra.specs.Algebra.{Value, scalars, value_in}
 use Rattle.lin_row.specs.Plain.{Among}
 use Rattle.normal_forms.specs.declared.family.Family.{Family}
 use Rattle.move_law.specs.Work as work
-use Rattle.move_law.specs.Work.{Work, IsWorkHigh}
+use Rattle.move_law.specs.Work.{IsWorkHigh}
 use Rattle.move_law.specs.Finish.{is_read, units_of, reading_work}
 use Rattle.cert_text.specs.declared.report.Carried.{Carried}
 use Rattle.cert_text.specs.declared.report.Named as named_type

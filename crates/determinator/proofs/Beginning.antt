@@ -1,5 +1,5 @@
 -- The first step of the run.
-use Rattle.std.proofs.Common.{◌≡◌, ◌≢◌, ℕ, zero, suc, ◌+◌, ◌<◌, ◌≤◌, ◌⊎◌, Bool, true, false, cond, ◌||◌, nat_le, eqb, ltb, eqb-true, eq-eqb, ne_eqb, inl, inr, Option, Some, List, [], ◌∷◌, map, get_or, refl, sym, ◌∙◌, ap, ap₂, subst, true≢false, arith}
+use Rattle.std.proofs.Common.{◌≡◌, ◌≢◌, ℕ, zero, suc, ◌+◌, ◌<◌, ◌≤◌, ◌⊎◌, Bool, true, false, cond, ◌||◌, nat_le, eqb, eqb-true, eq-eqb, ne_eqb, inl, inr, List, [], ◌∷◌, map, refl, sym, ◌∙◌, ap, ap₂, subst, true≢false, arith}
 use Rattle.std.specs.Prelude.{◌-◌}
 use Rattle.std.specs.List.{AllByRecursion}
 use Rattle.ring_theory.specs.Rational.{Rational}
@@ -19,7 +19,7 @@ use Rattle.poly_law.proofs.ExpLists.{exps_are}
 use Rattle.poly_law.proofs.ExpLaws
 use Rattle.mono_exp.specs.Exponents.{numbers_below}
 use Rattle.mono_exp.proofs.Lists.{Each, numbers_are_below}
-use Rattle.jet_law.specs.Canonical.{jet, monomial_in}
+use Rattle.jet_law.specs.Canonical.{jet}
 use Rattle.jet_poly.specs.JetTerms.{JetTerms}
 use Rattle.jet_poly.specs.Jets.{polynomial_of}
 use Rattle.germ_law.proofs.Canonical
@@ -30,7 +30,6 @@ use Rattle.normal_forms.specs.declared.pattern.Pattern.TheVariants as patterns
 use Rattle.coord_change.specs.declared.change.Change.{Change}
 use Rattle.coord_change.specs.Moves.{at}
 use Rattle.move_law.specs.Moves.{pair_exponents}
-use Rattle.move_law.specs.Split.{squares_in}
 use Rattle.move_law.specs.Hessian.{hessian_move, hessian_work, corank}
 use Rattle.coord_change.specs.Chains.{ChainParts}
 use Rattle.split_lemma.specs.Splits.{AnyHigh}

@@ -1,13 +1,13 @@
 -- What a report carries of a chain is true of the germ, and well formed.
 use mathlib.Core.Path.{fun_ext}
-use Rattle.std.proofs.Common.{◌≡◌, ℕ, ◌*◌, ◌+◌, ◌<◌, ◌≤◌, true, IsTrue, List, [], ◌∷◌, map, length, get_or, refl, sym, ap, ap₂, subst, ◌∙◌, arith}
-use Rattle.std.specs.List.{All, AllByRecursion, list_all}
-use Rattle.std.proofs.lemmas.List.Elements.{All-from_recursion, recursion_from_All}
+use Rattle.std.proofs.Common.{◌≡◌, ℕ, ◌*◌, ◌+◌, ◌<◌, ◌≤◌, IsTrue, List, [], ◌∷◌, map, length, get_or, refl, sym, ap, subst, ◌∙◌, arith}
+use Rattle.std.specs.List.{All, list_all}
+use Rattle.std.proofs.lemmas.List.Elements.{recursion_from_All}
 use Rattle.ring_theory.specs.Rational.{Rational}
 use Rattle.ring_law.specs.declared.fraction.Frac.{Frac}
 use Rattle.ext_algebra.specs.declared.algebra.Algebra.{Algebra}
 use Rattle.ext_algebra.specs.declared.algebra.Ext.{Ext}
-use Rattle.ext_algebra.specs.Algebra.{Value, ops, scalars, value_in, algebra_meaning, IsFieldAlgebra, IsElement, is_element, is_algebra}
+use Rattle.ext_algebra.specs.Algebra.{Value, ops, scalars, value_in, algebra_meaning, IsFieldAlgebra, IsElement, is_element}
 use Rattle.ext_algebra.specs.AlgebraLaws.{algebra_scalar_laws}
 use Rattle.ext_algebra.proofs.ElementTests.{is_algebra-IsAlgebra}
 use Rattle.poly_law.specs.ExpList.{exps}
@@ -16,19 +16,17 @@ use Rattle.poly_law.specs.Polynomials.{Polynomial, StartsAtIn, substitute}
 use Rattle.jet_law.specs.Canonical.{jet}
 use Rattle.jet_law.specs.Terms.{poly_of}
 use Rattle.jet_poly.specs.JetTerms.{JetTerms}
-use Rattle.jet_poly.specs.Jets.{IsJet}
 use Rattle.jet_subst.specs.Parts as parts_of
 use Rattle.jet_subst.specs.Parts.{IsPart}
 use Rattle.coord_change.specs.declared.change.Change.{Change}
 use Rattle.coord_change.specs.Changes.{entry_of}
-use Rattle.coord_change.specs.Moves.{Move, put, move_from}
-use Rattle.coord_change.specs.Carries.{carry_all, composite}
+use Rattle.coord_change.specs.Moves.{Move, put}
+use Rattle.coord_change.specs.Carries.{composite}
 use Rattle.poly_text.specs.declared.name.Name.{Name}
 use Rattle.cert_text.specs.declared.report.Carried as carried_type
 use Rattle.cert_text.specs.WellFormed.{is_valid_name, IsPartOf, IsWellFormedCarried}
 use Rattle.move_law.specs.Algebras as algebras_law
 use Rattle.report_law.specs.Polynomials.{terms_in, jet_at, value_at, lifted}
-use Rattle.report_law.specs.Items.{IsInvertibleChange}
 use Rattle.report_jet.proofs.ReportJets.{terms_in-poly_of}
 use Rattle.coord_change.specs.Chains.{ChainParts, carried_in}
 use Rattle.coord_change.specs.MoveJets.{IsJetFor, IsMoveExactly}

@@ -1,21 +1,19 @@
 -- The answers of Mather's test and of the quotient, at the order k of a jet g in at most one variable, as rows, basis and table of a report whose residual part is g.
 use mathlib.Core.Path.{fun_ext}
-use Rattle.std.proofs.Common.{◌≡◌, ◌≢◌, ℕ, zero, suc, ◌+◌, ◌<◌, ◌≤◌, ◌⊎◌, inl, inr, Bool, true, false, not, cond, ◌&&◌, pos, int_eq, List, [], ◌∷◌, ◌++◌, map, length, get_or, sum, refl, sym, ap, subst, ◌∙◌, arith, le-leb}
+use Rattle.std.proofs.Common.{◌≡◌, ◌≢◌, ℕ, zero, suc, ◌+◌, ◌<◌, ◌≤◌, ◌⊎◌, inl, inr, Bool, true, false, cond, ◌&&◌, List, [], ◌∷◌, ◌++◌, map, length, get_or, sum, refl, sym, ap, subst, ◌∙◌, arith, le-leb}
 use Rattle.std.specs.Prelude.{nat_le}
 use Rattle.std.specs.List.{All, AllByRecursion, filter, list_all}
 use Rattle.std.proofs.lemmas.List.{length-map}
-use Rattle.std.proofs.lemmas.List.Elements.{All-head, All-tail}
-use Rattle.std.proofs.lemmas.Bool.Decides.{Decides-int_eq}
 use Rattle.ring_theory.specs.Scalars.{Meaning}
 use Rattle.ring_theory.specs.Ring.{RingOps, IsCommRing}
 use Rattle.ext_algebra.specs.AlgebraLaws.{algebra_scalar_laws}
 use Rattle.ring_law.specs.declared.fraction.Frac.{Frac}
 use Rattle.ext_algebra.specs.declared.algebra.Algebra.{Algebra}
 use Rattle.ext_algebra.specs.declared.algebra.Ext.{Ext}
-use Rattle.ext_algebra.specs.Algebra.{Value, IsElement, is_element, ops, scalars, value_in, algebra_meaning}
+use Rattle.ext_algebra.specs.Algebra.{Value, IsElement, is_element, ops, value_in, algebra_meaning}
 use Rattle.ext_algebra.proofs.ElementTests.{is_element-IsElement}
 use Rattle.poly_law.specs.Sums.{sum_to}
-use Rattle.poly_law.specs.Exps.{degree, none, same}
+use Rattle.poly_law.specs.Exps.{degree, none}
 use Rattle.poly_law.specs.ExpList.{ExpList, exps}
 use Rattle.poly_law.specs.ExpList as lists
 use Rattle.poly_law.specs.Poly.{coefficient, times, derivative, term, of_basis, poly_ops, StartsAt, IsMatherRow, IsQuotientTable}
@@ -47,9 +45,9 @@ use Rattle.poly_text.specs.declared.name.Name.{Name}
 use Rattle.cert_text.specs.declared.report.Carried.{Carried}
 use Rattle.cert_text.specs.declared.report.Named as named_type
 use Rattle.cert_text.specs.WellFormed as texts
-use Rattle.cert_text.specs.WellFormed.{is_zero_element, is_term_of, is_residual_monomial, list_limit}
+use Rattle.cert_text.specs.WellFormed.{is_residual_monomial, list_limit}
 use Rattle.jet_law.specs.Canonical.{monomial_in}
-use Rattle.report_law.specs.Polynomials.{terms_in, jet_at, value_at, zero_element}
+use Rattle.report_law.specs.Polynomials.{terms_in, jet_at}
 use Rattle.milnor_alg.specs.Rows.{row_of}
 use Rattle.report_law.specs.Items.{residual_of, basis_of, values_of_row, multipliers_of_row, IsRowOf, AreMatherRows, IsMilnorTable}
 use Rattle.report_law.proofs.Listing.{listed_as}

@@ -1,10 +1,10 @@
 -- What a chain carries: its moves have no constant terms, and its last jet is what all moves make of the germ.
-use Rattle.std.proofs.Common.{◌≡◌, ℕ, zero, suc, ◌+◌, ◌<◌, ◌≤◌, List, [], ◌∷◌, ◌++◌, length, take, take_all, get_or, map, refl, sym, ap, subst, ◌∙◌, arith}
+use Rattle.std.proofs.Common.{◌≡◌, ℕ, zero, suc, ◌+◌, ◌<◌, ◌≤◌, List, [], ◌∷◌, ◌++◌, length, take_all, get_or, map, refl, sym, ap, subst, ◌∙◌, arith}
 use Rattle.std.specs.List.{AllByRecursion}
 use Rattle.ring_theory.specs.Scalars.{Scalars, ScalarLaws, Meaning}
 use Rattle.ring_theory.proofs.ValueSet.{values_are_set}
 use Rattle.poly_law.specs.ExpList.{exps}
-use Rattle.poly_law.specs.Polynomials.{Polynomial, SameToIn, StartsAtIn, HaveNoConstant, substitute}
+use Rattle.poly_law.specs.Polynomials.{Polynomial, SameToIn, StartsAtIn, HaveNoConstant}
 use Rattle.poly_law.proofs.ExpLists.{exps_are}
 use Rattle.poly_law.proofs.SubstOrder
 use Rattle.jet_law.specs.Canonical.{jet}
@@ -13,10 +13,10 @@ use Rattle.jet_poly.specs.JetTerms.{JetTerms}
 use Rattle.jet_subst.specs.Parts.{jet_at, part_of}
 use Rattle.germ_law.proofs.Canonical
 use Rattle.coord_change.specs.declared.change.Change.{Change}
-use Rattle.coord_change.specs.Moves.{Move, put, move_from}
+use Rattle.coord_change.specs.Moves.{Move, put}
 use Rattle.coord_change.specs.Carries.{carry, carry_all}
 use Rattle.carry_law.proofs.CarryLemmas
-use Rattle.coord_change.specs.Chains.{ChainParts, carried_in, IsMoveFrom, AreMoves, IsChain}
+use Rattle.coord_change.specs.Chains.{ChainParts, carried_in, AreMoves, IsChain}
 use Rattle.coord_change.specs.MoveJets.{IsJetFor, IsMoveExactly}
 
 pub carry_all_append : {V : Type 0} (n : ℕ) (s : Scalars V) (k : ℕ) (ms : List (Move n V)) (m : Move n V) (f : Polynomial n V)

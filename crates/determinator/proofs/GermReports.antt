@@ -1,6 +1,6 @@
 -- The reports without a name are true of the germ.
-use Rattle.std.proofs.Common.{◌≡◌, ◌≢◌, ℕ, zero, suc, ◌+◌, ◌<◌, ◌≤◌, ◌⊎◌, inl, inr, Bool, true, false, not, ◌&&◌, ◌||◌, IsTrue, List, [], ◌∷◌, map, length, drop, get_or, sum, refl, sym, ap, ap₂, subst, ◌∙◌, true≢false, le-leb, ltb-true, eq-eqb, arith}
-use Rattle.std.specs.Prelude.{nat_le, nat_lt, ◌==◌, Some}
+use Rattle.std.proofs.Common.{◌≡◌, ◌≢◌, ℕ, zero, suc, ◌+◌, ◌<◌, ◌≤◌, ◌⊎◌, Bool, true, false, not, ◌&&◌, ◌||◌, IsTrue, List, [], ◌∷◌, length, drop, sum, refl, sym, ap, subst, ◌∙◌, true≢false, le-leb, ltb-true, eq-eqb, arith}
+use Rattle.std.specs.Prelude.{nat_le, ◌==◌}
 use Rattle.std.specs.List.{All, AllByRecursion, list_all}
 use Rattle.std.proofs.lemmas.List.Elements.{recursion_from_All}
 use Rattle.ring_theory.specs.Rational.{Rational}
@@ -8,12 +8,11 @@ use Rattle.ring_law.specs.declared.fraction.Frac.{Frac}
 use Rattle.ext_algebra.specs.declared.algebra.Algebra.{Algebra}
 use Rattle.ext_algebra.specs.declared.algebra.Algebra.TheVariants as algebras
 use Rattle.ext_algebra.specs.declared.algebra.Ext.{Ext}
-use Rattle.ext_algebra.specs.Algebra.{Value, ops, scalars, value_in, algebra_meaning, IsFieldAlgebra, IsElement, is_element}
+use Rattle.ext_algebra.specs.Algebra.{Value, ops, value_in, algebra_meaning, IsFieldAlgebra, is_element}
 use Rattle.ext_algebra.specs.AlgebraLaws.{algebra_scalar_laws}
-use Rattle.poly_law.specs.Exps.{degree}
 use Rattle.poly_law.specs.ExpList.{ExpList, exps}
-use Rattle.poly_law.specs.Poly.{MatherFails, IsMatherRow}
-use Rattle.poly_law.specs.Polynomials.{Polynomial, StartsAtIn, coefficient_in}
+use Rattle.poly_law.specs.Poly.{MatherFails}
+use Rattle.poly_law.specs.Polynomials.{Polynomial, coefficient_in}
 use Rattle.poly_law.specs.Sorted as sorted
 use Rattle.mono_exp.specs.declared.exponent.Exp.{Exp}
 use Rattle.mono_exp.specs.Exponents.{IsIn}
@@ -23,23 +22,19 @@ use Rattle.jet_law.specs.Canonical.{monomial_in}
 use Rattle.jet_law.specs.Terms.{exp_of, poly_of}
 use Rattle.jet_law.proofs.TermLemmas.{at-exp_of, degree-exp_of}
 use Rattle.jet_poly.specs.JetTerms.{JetTerms, IsRising}
-use Rattle.jet_poly.specs.Jets.{IsJet, polynomial_of}
+use Rattle.jet_poly.specs.Jets.{IsJet}
 use Rattle.germ_law.proofs.Canonical.{stands_before, degree-entries}
 use Rattle.coord_change.specs.declared.change.Change.{Change}
 use Rattle.coord_change.specs.Moves.{Move}
 use Rattle.determinacy.specs.declared.row.MatherRow.{MatherRow}
-use Rattle.determinacy.specs.Tests as tests
 use Rattle.determinacy.specs.Tests.{IsMonomialIn}
 use Rattle.normal_forms.specs.declared.pattern.Pattern.TheVariants as patterns
-use Rattle.normal_forms.specs.Monomials.{is_split, is_residual, residual_terms, monomials_in}
+use Rattle.normal_forms.specs.Monomials.{is_split, is_residual, monomials_in}
 use Rattle.normal_forms.specs.Forms.{admits_monomial}
 use Rattle.normal_forms.proofs.Members.{residual_all}
 use Rattle.normal_forms.proofs.Residual.{residual_in}
 use Rattle.poly_text.specs.declared.name.Name.{Name}
 use Rattle.cert_text.specs.declared.report.Carried as carried_type
-use Rattle.cert_text.specs.declared.report.Limit as limit_type
-use Rattle.cert_text.specs.declared.report.Outside as outside_type
-use Rattle.cert_text.specs.declared.report.Unresolved as unresolved_type
 use Rattle.cert_text.specs.WellFormed.{is_monomial_in, is_zero_element, is_term_of, is_functional_value, is_low_monomial, list_limit, AreRows}
 use Rattle.report_law.specs.Polynomials.{terms_in, residual_part}
 use Rattle.report_law.specs.Items.{residual_of, AreMatherRows}
@@ -56,8 +51,7 @@ use Rattle.determinator.specs.Reports.{AreNames, IsLimitGerm, IsOutsideGerm, IsU
 use Rattle.determinator.proofs.Carrying.{carried_germ}
 use Rattle.determinator.proofs.Certificates
 use Rattle.determinator.proofs.Chained
-use Rattle.determinator.proofs.Laws
-use Rattle.determinator.proofs.ReportParts.{element_passes, jet_of_report}
+use Rattle.determinator.proofs.ReportParts.{jet_of_report}
 use Rattle.determinator.proofs.SplitTests
 use Rattle.determinator.proofs.Terms
 

@@ -1,5 +1,5 @@
 -- What is answered for a line is right, and planned.
-use Rattle.std.proofs.Common.{◌≡◌, ◌≢◌, ℕ, zero, suc, ◌+◌, ◌<◌, ◌≤◌, ◌⊎◌, inl, inr, Bool, true, false, cond, min, nat_le, IsTrue, List, [], ◌∷◌, map, sum, length, length-append, ◌++◌, refl, sym, ap, ap₂, subst, ◌∙◌, true≢false, arith, ltb-true, ltb, lt-ltb, filter}
+use Rattle.std.proofs.Common.{◌≡◌, ◌≢◌, ℕ, zero, ◌+◌, ◌<◌, ◌≤◌, ◌⊎◌, inl, inr, Bool, true, false, cond, min, nat_le, List, [], ◌∷◌, map, sum, length, length-append, ◌++◌, refl, sym, ap, subst, ◌∙◌, true≢false, arith, ltb-true, lt-ltb}
 use Rattle.std.specs.Prelude.{nat_lt}
 use Rattle.std.specs.List.{All, AllByRecursion, list_all}
 use Rattle.std.proofs.lemmas.List.{length-map}
@@ -19,15 +19,15 @@ use Rattle.mono_exp.specs.declared.exponent.Exp.{Exp}
 use Rattle.mono_exp.specs.Exponents.{IsIn}
 use Rattle.mono_exp.proofs.Lists.{Each}
 use Rattle.jet_law.specs.Canonical.{jet}
-use Rattle.jet_law.specs.Terms.{exp_of, poly_of}
+use Rattle.jet_law.specs.Terms.{poly_of}
 use Rattle.jet_law.proofs.TermLemmas.{degree-exp_of}
 use Rattle.jet_poly.specs.JetTerms.{JetTerms}
-use Rattle.jet_poly.specs.Jets.{IsJet, polynomial_of}
+use Rattle.jet_poly.specs.Jets.{polynomial_of}
 use Rattle.germ_law.specs.Germ as germs
 use Rattle.germ_law.specs.Germ.{RationalPolynomial, germ_of, without_constant, IsCritical}
 use Rattle.germ_law.specs.Reading.{IsReadingHigh}
 use Rattle.germ_law.proofs.Canonical
-use Rattle.line_syntax.specs.Syntax.{Word, Line, names_of, is_name}
+use Rattle.line_syntax.specs.Syntax.{Line, names_of, is_name}
 use Rattle.line_syntax.proofs.OneLine.{one_line}
 use Rattle.line_jet_law.specs.LineJets.{order_limit, IsRationalJet, rational_polynomial}
 use Rattle.line_jet.specs.Reads.{order_of, IsReadHigh}
@@ -40,23 +40,22 @@ use Rattle.poly_text.specs.Polynomials.{name_text}
 use Rattle.cert_text.specs.declared.report.Answer.{Answer}
 use Rattle.cert_text.specs.declared.report.Answer.TheVariants as answers
 use Rattle.cert_text.specs.declared.report.Carried.{Carried}
-use Rattle.cert_text.specs.declared.report.Named as named_type
 use Rattle.cert_text.specs.declared.report.Phase.TheVariants as phases
 use Rattle.cert_text.specs.declared.report.Phase.{Phase}
-use Rattle.cert_text.specs.WellFormed.{is_valid_name, IsWellFormedAnswer}
-use Rattle.report_law.specs.Items.{IsShape, IsCarriedTo}
-use Rattle.report_law.specs.Right.{IsHighLine, IsRightAnswer, IsWithin}
+use Rattle.cert_text.specs.WellFormed.{is_valid_name}
+use Rattle.report_law.specs.Items.{IsShape}
+use Rattle.report_law.specs.Right.{IsWithin}
 use Rattle.report_law.proofs.Exclusions.{small_excludes, grammar_excludes, critical_excludes}
 use Rattle.report_law.proofs.Names.{line_names, linear_valid, names_of_words, words_of_names}
 use Rattle.report_jet.proofs.OneJet
 use Rattle.plan_law.specs.Outcomes.{Outcome}
-use Rattle.plan_law.specs.Plan.{corank_of_germ, HasOutcome, IsPhaseHigh}
-use Rattle.planned_law.specs.Planned.{is_unbuilt, corank_of_line, IsUnbuilt, IsPlannedFor, IsOutcomeOf, HasRest, reported}
+use Rattle.plan_law.specs.Plan.{HasOutcome, IsPhaseHigh}
+use Rattle.planned_law.specs.Planned.{is_unbuilt, corank_of_line, IsUnbuilt, IsPlannedFor}
 use Rattle.planned_law.specs.Planned as plans
 use Rattle.determinator.specs.Answered.{IsPlannedAnswer, by_outcome, in_range, by_corank}
 use Rattle.determinator.specs.Lines.{IsGood}
 use Rattle.determinator.specs.Places.{IsPastReading}
-use Rattle.determinator.specs.Reports.{AreNames, IsCarriedGerm, IsReport, IsTrueOf}
+use Rattle.determinator.specs.Reports.{AreNames, IsCarriedGerm, IsReport}
 use Rattle.determinator.specs.Starts.{IsGermJet, IsJetOfGerm}
 
 -- ---- refusals

@@ -1,10 +1,9 @@
 -- The report of a name is true of the germ.
-use Rattle.std.proofs.Common.{◌≡◌, ◌≢◌, ℕ, zero, suc, ◌+◌, ◌-◌, ◌<◌, ◌≤◌, ◌^◌, Bool, true, false, cond, not, ◌&&◌, IsTrue, List, [], ◌∷◌, ◌++◌, map, length, refl, sym, ap, ap₂, subst, ◌∙◌, true≢false, arith}
+use Rattle.std.proofs.Common.{◌≡◌, ◌≢◌, ℕ, zero, ◌+◌, ◌-◌, ◌<◌, ◌≤◌, ◌^◌, Bool, true, false, cond, not, ◌&&◌, List, [], ◌∷◌, ◌++◌, map, length, refl, sym, ap, ap₂, subst, ◌∙◌, true≢false, arith}
 use Rattle.std.specs.Prelude.{◌==◌}
-use Rattle.std.specs.List.{All, AllByRecursion, list_all}
+use Rattle.std.specs.List.{AllByRecursion, list_all}
 use Rattle.std.proofs.lemmas.List.{length-map, length-append}
 use Rattle.ring_theory.specs.Rational.{Rational}
-use Rattle.ring_theory.specs.Scalars.{Scalars}
 use Rattle.ring_law.specs.declared.fraction.Frac.{Frac}
 use Rattle.ext_algebra.specs.declared.algebra.Algebra.{Algebra}
 use Rattle.ext_algebra.specs.declared.algebra.Ext.{Ext}
@@ -12,14 +11,11 @@ use Rattle.ext_algebra.specs.Algebra.{Value, ops, scalars, value_in, algebra_mea
 use Rattle.ext_algebra.specs.AlgebraLaws.{algebra_scalar_laws, algebra_inverts}
 use Rattle.poly_law.specs.Polynomials.{Polynomial, StartsAtIn}
 use Rattle.mono_exp.proofs.Lists.{length-numbers_below}
-use Rattle.jet_law.specs.Terms.{poly_of}
 use Rattle.jet_poly.specs.JetTerms.{JetTerms}
 use Rattle.jet_poly.specs.Jets.{polynomial_of}
 use Rattle.coord_change.specs.declared.change.Change.{Change}
 use Rattle.coord_change.specs.Moves.{Move}
 use Rattle.determinacy.specs.declared.row.MatherRow.{MatherRow}
-use Rattle.milnor_alg.specs.declared.quotient.JetQuotient.{JetQuotient}
-use Rattle.jet_quotient.specs.Quotients.{IsQuotientOf}
 use Rattle.normal_forms.specs.declared.family.Family.{Family}
 use Rattle.normal_forms.specs.declared.family.Family.TheVariants as families
 use Rattle.normal_forms.specs.declared.kind.Kind.TheVariants as kinds
@@ -35,17 +31,16 @@ use Rattle.cert_text.specs.declared.report.Named as named_type
 use Rattle.cert_text.specs.WellFormed as texts
 use Rattle.cert_text.specs.WellFormed.{is_unit_pair, list_limit}
 use Rattle.report_law.specs.Polynomials.{terms_in, residual_part, coefficient_at}
-use Rattle.report_law.specs.Items.{residual_of, coefficients_of, squares_of, AreUnits, IsModulusOf, IsMilnorTable}
+use Rattle.report_law.specs.Items.{coefficients_of, squares_of, AreUnits, IsModulusOf, IsMilnorTable}
 use Rattle.report_law.proofs.Splitting.{and_both}
 use Rattle.line_syntax.proofs.Bools.{and_left, and_right}
 use Rattle.coord_change.specs.Chains.{ChainParts, carried_in}
 use Rattle.coord_change.specs.MoveJets.{IsJetFor}
 use Rattle.move_law.specs.Algebras as algebras_law
-use Rattle.move_law.specs.Moves.{residual}
 use Rattle.plan_law.specs.Run.{brought}
 use Rattle.determinator.specs.Carried.{with_parts, IsCarriedFrom}
 use Rattle.determinator.specs.Jets.{IsListed, residual_jet, AreRowsFor}
-use Rattle.determinator.specs.Naming.{AreUnitsOf, AreWithInverses, IsNamingOf}
+use Rattle.determinator.specs.Naming.{IsNamingOf}
 use Rattle.determinator.specs.Places.{IsPlace}
 use Rattle.determinator.specs.Reports.{AreNames, IsNamedGerm}
 use Rattle.determinator.specs.declared.naming.Naming.{Naming}
@@ -54,7 +49,7 @@ use Rattle.determinator.proofs.Certificates
 use Rattle.determinator.proofs.Chained
 use Rattle.determinator.proofs.GermReports
 use Rattle.determinator.proofs.Laws
-use Rattle.determinator.proofs.ReportParts.{element_passes, list_passes}
+use Rattle.determinator.proofs.ReportParts.{element_passes}
 use Rattle.determinator.proofs.SplitTests
 
 -- the sum of a family whose coefficients all have to be units, with no modulus, has at most two terms

@@ -6,10 +6,9 @@ use Rattle.poly_law.specs.Polynomials.{Polynomial}
 use Rattle.lin_row.specs.Plain.{Among}
 use Rattle.cert_text.specs.declared.report.Phase.{Phase}
 use Rattle.coord_change.specs.Moves.{Move}
-use Rattle.coord_change.specs.Carries.{carry, compose, composite}
+use Rattle.coord_change.specs.Carries.{carry, compose}
 use Rattle.coord_change.specs.CarryHeights.{IsCarryAllHigh, IsComposeAllHigh, IsCompositeHigh}
-use Rattle.move_law.specs.Work as work
-use Rattle.move_law.specs.Work.{Work, IsWorkHigh, carrying_work, composing_from, composing_work}
+use Rattle.move_law.specs.Work.{Work, carrying_work, composing_from, composing_work}
 use Rattle.split_lemma.specs.Splits.{AnyHigh}
 use Rattle.ring_theory.specs.Scalars.{Scalars}
 use Rattle.plan_law.specs.Pieces.{HasHigh, pieces_over}

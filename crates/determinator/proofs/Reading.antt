@@ -1,18 +1,17 @@
 -- The form of a family in the words of reports and in those of the plan, for a jet that is split.
-use Rattle.std.proofs.Common.{◌≡◌, ◌≢◌, ℕ, zero, suc, ◌+◌, ◌-◌, ◌<◌, ◌≤◌, ◌⊎◌, inl, inr, Bool, true, false, cond, not, ◌&&◌, ◌||◌, IsTrue, eqb, eqb-true, eq-eqb, List, [], ◌∷◌, ◌++◌, map, length, get_or, refl, sym, ap, ap₂, subst, ◌∙◌, true≢false, ltb, lt-ltb, le-ltb, arith}
+use Rattle.std.proofs.Common.{◌≡◌, ◌≢◌, ℕ, zero, suc, ◌+◌, ◌-◌, ◌<◌, ◌≤◌, ◌⊎◌, inl, inr, Bool, true, false, cond, not, ◌&&◌, ◌||◌, eqb, eqb-true, eq-eqb, List, [], ◌∷◌, ◌++◌, map, length, get_or, refl, sym, ap, ap₂, subst, ◌∙◌, true≢false, ltb, lt-ltb, le-ltb, arith}
 use Rattle.std.specs.Prelude.{◌==◌}
 use Rattle.std.specs.List.{All, AllByRecursion, list_all, list_any}
 use Rattle.std.specs.Str.{bytes_eq}
 use Rattle.std.specs.Cmp.Lexicographic.{bytes_decides}
 use Rattle.std.proofs.lemmas.List.{ext_get_or, get_or-map, get_or_past, length-map}
 use Rattle.std.proofs.lemmas.List.Elements.{recursion_from_All}
-use Rattle.ring_theory.specs.Scalars.{Scalars, ScalarLaws, HasInverses}
+use Rattle.ring_theory.specs.Scalars.{Scalars}
 use Rattle.ring_law.specs.declared.fraction.Frac.{Frac}
 use Rattle.ext_algebra.specs.declared.algebra.Algebra.{Algebra}
 use Rattle.ext_algebra.specs.declared.algebra.Ext.{Ext}
 use Rattle.ext_algebra.specs.Algebra.{Value, ops, scalars, value_in, algebra_meaning}
-use Rattle.ext_algebra.specs.AlgebraLaws.{algebra_scalar_laws}
-use Rattle.poly_law.specs.ExpList.{ExpList, exps}
+use Rattle.poly_law.specs.ExpList.{exps}
 use Rattle.poly_law.specs.Poly.{place}
 use Rattle.poly_law.specs.Polynomials.{Polynomial, coefficient_in}
 use Rattle.poly_law.proofs.ExpLists.{exps_are}
@@ -29,7 +28,7 @@ use Rattle.normal_forms.specs.declared.family.Family.{Family}
 use Rattle.normal_forms.specs.Families.{is_family, corank_of, sum_of, kind_of}
 use Rattle.normal_forms.specs.Coefficients.{coefficients_in_sum, coefficients_of_squares, unit_values_in}
 use Rattle.normal_forms.specs.Forms.{IsFormOf}
-use Rattle.normal_forms.specs.Monomials.{in_eight, is_one_of, is_residual, is_square, is_split, monomials_in, residual_terms, square_of, square_variables}
+use Rattle.normal_forms.specs.Monomials.{in_eight, is_one_of, is_residual, residual_terms, square_of}
 use Rattle.normal_forms.specs.Units.{unit_values}
 use Rattle.normal_forms.proofs.Members.{residual_all}
 use Rattle.normal_forms.proofs.Padded.{get_or-in_eight, length-in_eight, in_eight-in}
@@ -43,7 +42,7 @@ use Rattle.coord_change.specs.MoveJets.{IsJetFor}
 use Rattle.determinator.specs.Jets.{IsListed}
 use Rattle.split_lemma.specs.SplitForms.{IsSplitUpTo, HasSquares}
 use Rattle.determinator.proofs.SplitTests
-use Rattle.determinator.proofs.SplitTests.{square_is, square_exponent}
+use Rattle.determinator.proofs.SplitTests.{square_is}
 
 below_or_past : (i n : ℕ) → (i < n) ⊎ (n ≤ i)
 below_or_past i n = grind arith

@@ -1,6 +1,6 @@
 -- Jets, changes and elements of the calls as those of a report.
 use mathlib.Core.Path.{fun_ext}
-use Rattle.std.proofs.Common.{◌≡◌, ◌≢◌, ℕ, zero, suc, ◌+◌, ◌*◌, ◌<◌, ◌≤◌, ◌⊎◌, inl, inr, Bool, true, false, not, ◌&&◌, List, [], ◌∷◌, map, length, get_or, sum, drop, refl, sym, ap, subst, ◌∙◌, true≢false, le-leb, lt-ltb, eq-eqb, pos, arith}
+use Rattle.std.proofs.Common.{◌≡◌, ◌≢◌, ℕ, zero, suc, ◌+◌, ◌*◌, ◌<◌, ◌≤◌, ◌⊎◌, inl, inr, Bool, true, false, not, ◌&&◌, List, [], ◌∷◌, length, get_or, sum, drop, refl, sym, subst, ◌∙◌, true≢false, le-leb, lt-ltb, eq-eqb, pos, arith}
 use Rattle.std.specs.Prelude.{nat_le, nat_lt, ◌==◌}
 use Rattle.std.specs.List.{All, AllByRecursion, list_all}
 use Rattle.std.proofs.lemmas.List.Elements.{recursion_from_All}
@@ -18,7 +18,6 @@ use Rattle.ext_algebra.specs.declared.algebra.Ext.{Ext}
 use Rattle.ext_algebra.specs.Algebra.{Value, ops, scalars, value_in, algebra_meaning, IsElement, is_element}
 use Rattle.ext_algebra.specs.AlgebraLaws.{algebra_scalar_laws}
 use Rattle.ext_algebra.proofs.ElementTests.{is_element-IsElement}
-use Rattle.poly_law.specs.Exps.{degree}
 use Rattle.poly_law.specs.ExpList.{exps}
 use Rattle.poly_law.specs.Poly.{coefficient}
 use Rattle.poly_law.specs.Polynomials.{Polynomial, StartsAtIn}
@@ -30,7 +29,7 @@ use Rattle.jet_poly.specs.JetTerms.{JetTerms}
 use Rattle.jet_poly.specs.Jets.{IsJet}
 use Rattle.jet_subst.specs.Parts as parts_of
 use Rattle.coord_change.specs.Changes.{entry_of}
-use Rattle.cert_text.specs.WellFormed.{is_monomial_in, is_zero_element, is_term_of, IsJetOf, has_no_constant, IsPartOf}
+use Rattle.cert_text.specs.WellFormed.{is_monomial_in, is_zero_element, is_term_of, IsJetOf, IsPartOf}
 use Rattle.move_law.specs.Algebras as algebras_law
 use Rattle.report_law.specs.Polynomials.{terms_in, jet_at, value_at, lifted}
 use Rattle.report_law.proofs.Splitting.{and_both, all_zero_past}

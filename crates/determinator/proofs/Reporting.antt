@@ -11,9 +11,7 @@ use Rattle.ext_algebra.specs.Algebra.{Value, scalars, value_in, algebra_meaning,
 use Rattle.poly_law.specs.Polynomials.{Polynomial}
 use Rattle.mono_exp.specs.declared.exponent.Exp.{Exp}
 use Rattle.jet_poly.specs.JetTerms.{JetTerms}
-use Rattle.jet_law.specs.Terms.{poly_of}
 use Rattle.lin_row.specs.Plain.{Among}
-use Rattle.coord_change.specs.declared.change.Change.{Change}
 use Rattle.coord_change.specs.Moves.{Move}
 use Rattle.determinacy.specs.declared.row.MatherRow.{MatherRow}
 use Rattle.normal_forms.specs.declared.family.Family.{Family}
@@ -26,26 +24,23 @@ use Rattle.poly_text.specs.declared.name.Name.{Name}
 use Rattle.cert_text.specs.declared.report.Carried as carried_type
 use Rattle.cert_text.specs.declared.report.Answer.{Answer}
 use Rattle.cert_text.specs.declared.report.Answer.TheVariants as answers
-use Rattle.cert_text.specs.declared.report.Phase.{Phase}
 use Rattle.cert_text.specs.declared.report.Phase.TheVariants as phases
 use Rattle.cert_text.specs.WellFormed.{has_small_numbers}
 use Rattle.line_syntax.proofs.Bools.{and_left}
 use Rattle.coord_change.specs.Chains.{ChainParts, carried_in}
 use Rattle.coord_change.specs.MoveJets.{IsJetFor}
 use Rattle.move_law.specs.Algebras as algebras_law
-use Rattle.move_law.specs.Moves.{residual}
-use Rattle.move_law.specs.Finish.{Finishing, begin_finish, finish, is_read, units_of, reading_work}
+use Rattle.move_law.specs.Finish.{Finishing, begin_finish, finish, is_read, units_of}
 use Rattle.move_law.specs.Work as work
-use Rattle.jet_quotient.specs.Quotients.{IsQuotientHigh}
 use Rattle.split_lemma.specs.Splits.{AnyHigh}
 use Rattle.plan_law.specs.Outcomes as outcomes
 use Rattle.plan_law.specs.Outcomes.{Outcome}
-use Rattle.plan_law.specs.Pieces.{HasHigh, pieces_over}
+use Rattle.plan_law.specs.Pieces.{HasHigh}
 use Rattle.plan_law.specs.Run as run
 use Rattle.plan_law.specs.Run.{brought, carried_by, composing_pieces, finished, finishing_pieces, searching, with_inverses}
 use Rattle.determinator.specs.Carried.{with_parts, IsCarriedFrom, IsWithoutResidual}
-use Rattle.determinator.specs.Jets.{IsListed, residual_jet, AreRowsFor, IsFailureFor}
-use Rattle.determinator.specs.Naming.{IsSplitJet, AreUnitsOf, IsNamingOf, IsUnread, family_found, is_read_as}
+use Rattle.determinator.specs.Jets.{IsListed, AreRowsFor, IsFailureFor}
+use Rattle.determinator.specs.Naming.{IsSplitJet, IsNamingOf, IsUnread, family_found, is_read_as}
 use Rattle.determinator.specs.Places.{IsPlace}
 use Rattle.determinator.specs.Reports.{AreNames, IsReport}
 use Rattle.split_lemma.specs.SplitForms.{IsSplitUpTo, HasSquares}
@@ -54,10 +49,9 @@ use Rattle.determinator.proofs.Carrying.{change_planned, jet_planned, planned}
 use Rattle.determinator.proofs.Chained
 use Rattle.determinator.proofs.GermReports
 use Rattle.determinator.proofs.NameReports
-use Rattle.determinator.proofs.Pieces.{among_left, among_right, high_over}
+use Rattle.determinator.proofs.Pieces.{among_right}
 use Rattle.determinator.proofs.Reading
 use Rattle.determinator.proofs.SplitLemmas.{at_jet, from_jet}
-use Rattle.determinator.proofs.SplitTests
 
 -- what a report carries, with its parts
 pub from_parts : (names : List Name) (n c : ℕ) (a : Algebra) (o : ℕ) (moves : List (Move n (Value a))) (chain : ChainParts (Ext Frac)) (r : carried_type.Carried) → (h : IsCarriedFrom names n c a o moves chain r)

@@ -1,5 +1,5 @@
 -- The beginning of an order.
-use Rattle.std.proofs.Common.{◌≡◌, ◌≢◌, ℕ, suc, ◌+◌, ◌<◌, ◌≤◌, inl, inr, List, [], ◌∷◌, ◌++◌, map, length, refl, sym, ◌∙◌, ap, subst, arith}
+use Rattle.std.proofs.Common.{◌≡◌, ◌≢◌, ℕ, suc, ◌+◌, ◌<◌, ◌≤◌, inl, List, [], ◌∷◌, ◌++◌, sym, ◌∙◌, subst, arith}
 use Rattle.std.specs.List.{AllByRecursion}
 use Rattle.std.proofs.lemmas.List.{length-append}
 use Rattle.ring_theory.specs.Rational.{Rational}
@@ -15,7 +15,6 @@ use Rattle.jet_law.specs.Canonical.{jet}
 use Rattle.jet_poly.specs.JetTerms.{JetTerms}
 use Rattle.coord_change.specs.declared.change.Change.{Change}
 use Rattle.coord_change.specs.Moves.{Move}
-use Rattle.coord_change.specs.Carries.{carry, carry_all}
 use Rattle.coord_change.specs.CarryHeights.{IsCarryHigh, IsCarryAllHigh}
 use Rattle.cert_text.specs.declared.report.Phase.TheVariants as phases
 use Rattle.move_law.specs.Work as work

@@ -1,26 +1,23 @@
 -- A carried jet that is split passes the test of a split jet, and its residual terms are its residual part.
 use Rattle.std.proofs.Common.{◌≡◌, ◌≢◌, ℕ, zero, suc, ◌+◌, ◌-◌, ◌<◌, ◌≤◌, ◌⊎◌, inl, inr, Bool, true, false, cond, ◌&&◌, ◌||◌, eqb, eqb-true, eq-eqb, List, [], ◌∷◌, ◌++◌, map, drop, get_or, length, sum, replicate, refl, sym, ap, ap₂, subst, ◌∙◌, true≢false, le-leb, arith}
-use Rattle.std.specs.Prelude.{◌==◌, nat_le}
+use Rattle.std.specs.Prelude.{◌==◌}
 use Rattle.std.specs.List.{All, AllByRecursion, list_all, list_any}
 use Rattle.std.specs.Str.{bytes_eq}
 use Rattle.std.specs.Cmp.Lexicographic.{bytes_decides}
 use Rattle.std.proofs.Math.ListN.{get_or-append}
 use Rattle.std.proofs.lemmas.List.{ext_get_or, length-replicate, length-map}
 use Rattle.std.proofs.lemmas.List.Elements.{recursion_from_All}
-use Rattle.std.proofs.lemmas.List.Folds.{list_all-map}
 use Rattle.ring_theory.specs.Ring.{RingOps}
-use Rattle.ring_theory.specs.Scalars.{Scalars, Meaning, ScalarLaws}
+use Rattle.ring_theory.specs.Scalars.{Scalars, ScalarLaws}
 use Rattle.ring_law.specs.declared.fraction.Frac.{Frac}
 use Rattle.ext_algebra.specs.declared.algebra.Algebra.{Algebra}
 use Rattle.ext_algebra.specs.declared.algebra.Ext.{Ext}
 use Rattle.ext_algebra.specs.Algebra.{Value, scalars, ops, value_in, algebra_meaning}
 use Rattle.ext_algebra.specs.AlgebraLaws.{algebra_scalar_laws}
 use Rattle.poly_law.specs.Exps.{same, degree, variable}
-use Rattle.poly_law.specs.ExpList.{ExpList, exps}
-use Rattle.poly_law.specs.Poly.{coefficient, square, place, IsSplit}
+use Rattle.poly_law.specs.ExpList.{exps}
+use Rattle.poly_law.specs.Poly.{square, IsSplit}
 use Rattle.poly_law.specs.Polynomials.{Polynomial, SameIn, coefficient_in, cut_in}
-use Rattle.poly_law.specs.Sorted.{HasNoZero}
-use Rattle.poly_law.specs.Sorted as sorted
 use Rattle.poly_law.proofs.ExpLists.{exps_are}
 use Rattle.poly_law.proofs.ExpLaws
 use Rattle.poly_law.proofs.OneList.{one_list}

@@ -1,5 +1,5 @@
 -- The beginning of the run.
-use Rattle.std.proofs.Common.{◌≡◌, ℕ, ◌<◌, ◌≤◌, inl, inr, List, [], ◌∷◌, ◌++◌, refl, sym, ◌∙◌, ap, ap₂, subst, arith}
+use Rattle.std.proofs.Common.{◌≡◌, ℕ, ◌<◌, ◌≤◌, inl, [], ◌∷◌, ◌++◌, refl, sym, ◌∙◌, ap, ap₂, subst, arith}
 use Rattle.ring_theory.specs.Rational.{Rational}
 use Rattle.ring_theory.specs.Scalars.{Scalars}
 use Rattle.ring_theory.specs.Height.{rational_scalars}
@@ -15,7 +15,6 @@ use Rattle.jet_law.proofs.CanonicalLemmas
 use Rattle.jet_poly.specs.JetTerms.{JetTerms}
 use Rattle.jet_poly.specs.Jets.{polynomial_of}
 use Rattle.germ_law.proofs.Canonical
-use Rattle.coord_change.specs.Moves.{Move}
 use Rattle.coord_change.specs.Carries.{carry}
 use Rattle.coord_change.specs.CarryHeights.{IsCarryHigh}
 use Rattle.move_law.specs.Algebras.{lifted}

@@ -1,15 +1,14 @@
 -- What the answer of Mather's test says of the condition, and what the test needs.
-use Rattle.std.proofs.Common.{◌≡◌, ◌≢◌, ℕ, ◌+◌, ◌<◌, ◌≤◌, List, [], ◌∷◌, map, sum, refl, sym, subst, ◌∙◌, arith}
+use Rattle.std.proofs.Common.{◌≡◌, ◌≢◌, ℕ, ◌+◌, ◌<◌, ◌≤◌, List, [], ◌∷◌, map, refl, sym, subst, ◌∙◌, arith}
 use Rattle.std.specs.List.{AllByRecursion}
 use Rattle.ring_theory.specs.Rational.{Rational}
-use Rattle.ring_theory.specs.Scalars.{Scalars, ScalarLaws, Meaning}
+use Rattle.ring_theory.specs.Scalars.{ScalarLaws, Meaning}
 use Rattle.ring_theory.proofs.ValueSet.{values_are_set}
 use Rattle.ext_algebra.specs.declared.algebra.Algebra.{Algebra}
 use Rattle.ext_algebra.specs.declared.algebra.Ext.{Ext}
 use Rattle.ext_algebra.specs.Algebra.{Value, scalars, ops, value_in, algebra_meaning}
 use Rattle.ext_algebra.specs.AlgebraLaws.{algebra_scalar_laws}
 use Rattle.ring_law.specs.declared.fraction.Frac.{Frac}
-use Rattle.poly_law.specs.Exps.{degree}
 use Rattle.poly_law.specs.ExpList.{ExpList, exps}
 use Rattle.poly_law.specs.Poly.{MatherRow, MatherRows}
 use Rattle.poly_law.specs.Polynomials.{Polynomial, StartsAtIn}
@@ -33,8 +32,8 @@ use Rattle.move_law.specs.Moves.{residual}
 use Rattle.coord_change.specs.Chains.{ChainParts, carried_in}
 use Rattle.coord_change.specs.MoveJets.{IsJetFor}
 use Rattle.plan_law.specs.Run.{brought, IsDetermined}
-use Rattle.determinator.specs.Jets.{IsListed, residual_jet, IsTestedBy}
-use Rattle.determinator.specs.Places.{IsPlace, IsPlaced}
+use Rattle.determinator.specs.Jets.{IsListed, residual_jet}
+use Rattle.determinator.specs.Places.{IsPlace}
 use Rattle.determinator.proofs.Chained
 use Rattle.determinator.proofs.Laws
 use Rattle.determinator.proofs.SplitTests

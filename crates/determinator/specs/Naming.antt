@@ -1,12 +1,10 @@
 -- The name of a jet over the rational numbers in corank 0 and 1: the family, the units with their inverses, and the quotient.
-use Rattle.std.specs.Prelude.{◌≡◌, ◌≢◌, ℕ, ◌≤◌, ◌^◌, Bool, true, false, not, IsTrue, Option, Some, None, List, map, ◌≤◌}
+use Rattle.std.specs.Prelude.{◌≡◌, ◌≢◌, ℕ, ◌≤◌, ◌^◌, Bool, true, false, not, Option, Some, None, List, map, ◌≤◌}
 use Rattle.std.specs.List.{All, AllByRecursion, list_all}
-use Rattle.ring_theory.specs.Rational.{Rational}
 use Rattle.ring_law.specs.declared.fraction.Frac.{Frac}
 use Rattle.ext_algebra.specs.declared.algebra.Algebra.{Algebra}
-use Rattle.ext_algebra.specs.declared.algebra.Algebra.TheVariants as algebras
 use Rattle.ext_algebra.specs.declared.algebra.Ext.{Ext}
-use Rattle.ext_algebra.specs.Algebra.{Value, scalars, value_in, algebra_meaning, IsElement, IsInverse}
+use Rattle.ext_algebra.specs.Algebra.{Value, scalars, value_in, algebra_meaning, IsElement}
 use Rattle.poly_law.specs.Polynomials.{Polynomial}
 use Rattle.jet_law.specs.Terms.{poly_of}
 use Rattle.jet_poly.specs.JetTerms.{JetTerms}
@@ -14,14 +12,13 @@ use Rattle.jet_poly.specs.Jets.{IsJet}
 use Rattle.lin_row.specs.Plain.{Among}
 use Rattle.normal_forms.specs.declared.family.Family.{Family}
 use Rattle.normal_forms.specs.declared.kind.Kind.TheVariants as kinds
-use Rattle.normal_forms.specs.Families.{kind_of, is_family}
+use Rattle.normal_forms.specs.Families.{kind_of}
 use Rattle.normal_forms.specs.Coefficients.{unit_values_in}
 use Rattle.normal_forms.specs.Forms.{IsFormOf}
 use Rattle.cert_text.specs.declared.report.Phase.{Phase}
 use Rattle.cert_text.specs.declared.report.Phase.TheVariants as phases
 use Rattle.cert_text.specs.WellFormed.{IsFamily}
 use Rattle.jet_quotient.specs.Quotients.{IsQuotientOf, IsQuotientHigh}
-use Rattle.move_law.specs.Moves.{residual}
 use Rattle.move_law.specs.Finish.{finish, is_read, units_of}
 use Rattle.determinator.specs.Jets.{IsListed, residual_jet}
 use Rattle.split_lemma.specs.SplitForms.{IsSplitUpTo, HasSquares}

@@ -1,5 +1,5 @@
 -- The beginning of the run.
-use Rattle.std.specs.Prelude.{◌≡◌, ℕ, ◌≤◌, true, false, List, [], ◌∷◌}
+use Rattle.std.specs.Prelude.{◌≡◌, ◌≤◌, true, false, List, [], ◌∷◌}
 use Rattle.ring_theory.specs.Rational.{Rational}
 use Rattle.ring_theory.specs.Height.{rational_scalars}
 use Rattle.ring_law.specs.declared.fraction.Frac.{Frac}

@@ -1,23 +1,22 @@
 -- What a kill move puts for the variables, its linear part, and its change of coordinates.
-use Rattle.std.proofs.Common.{◌≡◌, ◌≢◌, ℕ, zero, suc, ◌+◌, ◌*◌, ◌<◌, ◌≤◌, ◌⊎◌, inl, inr, Bool, true, false, cond, eqb, List, [], ◌∷◌, ◌++◌, length, map, get_or, take, refl, ap, ap₂, sym, ◌∙◌, subst, add-one, arith}
+use Rattle.std.proofs.Common.{◌≡◌, ◌≢◌, ℕ, zero, suc, ◌+◌, ◌*◌, ◌<◌, ◌≤◌, ◌⊎◌, inl, inr, cond, eqb, List, [], ◌∷◌, ◌++◌, length, map, get_or, take, refl, ap, ap₂, sym, ◌∙◌, subst, add-one, arith}
 use Rattle.std.proofs.Math.Dec.{eqb-suc-suc}
 use Rattle.std.specs.Prelude.{All, Contains, flat_map, sum}
-use Rattle.std.specs.List.{AllByRecursion, range_with_len}
+use Rattle.std.specs.List.{AllByRecursion}
 use Rattle.std.proofs.lemmas.List.{map-append, length-map, get_or-map}
 use Rattle.std.proofs.lemmas.List.Elements.{All-head, All-tail}
 use Rattle.std.proofs.lemmas.List.FromFn.{get_or-map-range_with_len}
-use Rattle.ring_theory.specs.Ring.{RingOps, IsCommRing}
-use Rattle.ring_theory.specs.Scalars.{Scalars, ScalarLaws, Meaning, MeaningLaws}
+use Rattle.ring_theory.specs.Ring.{RingOps}
+use Rattle.ring_theory.specs.Scalars.{ScalarLaws, Meaning}
 use Rattle.ring_theory.proofs.ValueSet.{values_are_set}
 use Rattle.ring_law.specs.Refusals.{FaultBy}
-use Rattle.poly_law.specs.Sums.{sum_to, unit_at}
+use Rattle.poly_law.specs.Sums.{unit_at}
 use Rattle.poly_law.specs.Exps.{same, variable, degree, none, plus}
 use Rattle.poly_law.specs.ExpList.{ExpList, exps}
-use Rattle.poly_law.specs.Poly.{coefficient, Same, SameTo, StartsAt, term, cut}
-use Rattle.poly_law.specs.Polynomials.{Polynomial, SameIn, HaveNoConstant, cut_in, coefficient_in}
+use Rattle.poly_law.specs.Poly.{coefficient, StartsAt, term}
+use Rattle.poly_law.specs.Polynomials.{Polynomial, SameIn, HaveNoConstant, cut_in}
 use Rattle.poly_law.proofs.ExpLists.{exps_are}
 use Rattle.poly_law.proofs.ExpLaws
-use Rattle.poly_law.proofs.Sums
 use Rattle.poly_law.proofs.Near
 use Rattle.poly_law.proofs.Linear
 use Rattle.poly_law.proofs.Order
@@ -29,11 +28,11 @@ use Rattle.mono_exp.proofs.Lists.{length-numbers_below, get_or-numbers_below}
 use Rattle.jet_law.specs.Canonical.{jet, monomial_in}
 use Rattle.jet_law.specs.Heights.{IsHigh, sums_heights}
 use Rattle.jet_law.specs.Terms.{exp_of, poly_of}
-use Rattle.jet_law.proofs.High.{high_left, high_right, high_in}
+use Rattle.jet_law.proofs.High.{high_left, high_in}
 use Rattle.jet_law.proofs.TermLemmas.{degree-exp_of}
 use Rattle.jet_poly.specs.JetTerms.{JetTerms, IsRising, AllAfter}
 use Rattle.jet_poly.specs.Jets.{IsJet}
-use Rattle.jet_subst.specs.Parts.{IsPart, part_of, jet_at}
+use Rattle.jet_subst.specs.Parts.{IsPart, part_of}
 use Rattle.germ_law.proofs.Canonical
 use Rattle.germ_law.proofs.Canonical.{stands_before}
 use Rattle.line_jet_law.proofs.Bridge.{before_in}
@@ -44,7 +43,7 @@ use Rattle.coord_change.specs.Changes.{IsChange}
 use Rattle.coord_change.specs.Errors.{KernelBy, RangeBy}
 use Rattle.coord_change.specs.Inverses.{InverseIsHigh, IsInKernel}
 use Rattle.coord_change.specs.Linear.{linear_part_of, order_of}
-use Rattle.coord_change.specs.Moves.{Move, move_from, linear_part}
+use Rattle.coord_change.specs.Moves.{linear_part}
 use Rattle.coord_change.proofs.InverseLemmas
 use Rattle.coord_change.specs.Linear.{one_at}
 use Rattle.coord_change.proofs.ChangeLemmas
@@ -55,12 +54,12 @@ use Rattle.kill_law.specs.declared.part.Part.{Part}
 use Rattle.kill_law.specs.Table.{row}
 use Rattle.kill_law.specs.Kill.{cofactor, entries_in, tail_of}
 use Rattle.kill_law.specs.Taken as law
-use Rattle.kill_law.specs.Taken.{term_of, taken_by, killed, kill_move, reduction, reduction_heights, step_heights, tail_heights, multiplied_heights, IsKilledSumHigh, IsKillHigh}
+use Rattle.kill_law.specs.Taken.{term_of, taken_by, killed, kill_move, reduction, reduction_heights, step_heights, tail_heights, multiplied_heights}
 use Rattle.kill_table.specs.declared.reduction.Step.{Step}
 use Rattle.kill_table.specs.Moves.{IsMoveTo, IsPutFor, IsMoveHigh, IsRegular, fault_from}
 use Rattle.kill_table.specs.Steps.{step_of, IsReady, Takes, IsWeighed, IsReduction, IsTakingHigh, IsPuttingHigh, put_by}
 use Rattle.kill_table.proofs.Table.{weights-below, cofactor-weight, weight-sum, weight-same}
-use Rattle.kill_table.proofs.Steps.{all-append, all-at}
+use Rattle.kill_table.proofs.Steps.{all-append}
 use Rattle.kill_table.proofs.Unipotent
 
 -- ---- jets of the program in canonical form

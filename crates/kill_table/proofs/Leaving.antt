@@ -1,14 +1,10 @@
 -- The term that a step gives for an entry: what is taken for it, and what the tail of a lead leaves.
-use Rattle.std.proofs.Common.{◌≡◌, ◌≢◌, ℕ, zero, suc, ◌+◌, ◌<◌, ◌≤◌, ◌^◌, Bool, true, false, cond, List, [], ◌∷◌, ◌++◌, map, length, get_or, take, drop, refl, sym, ap, ap₂, subst, ◌∙◌, append-nil, append_assoc, drop-cons, add-one, ◌*◌, ◌⊎◌, inl, inr, arith}
-use Rattle.std.specs.Prelude.{Option, Some, None, Result, Ok, Err, OnOk, All, Contains, filter, filter_map, flat_map}
-use Rattle.std.specs.List.{AllByRecursion, list_all}
-use Rattle.ring_theory.specs.Scalars.{Scalars, Meaning}
-use Rattle.poly_law.specs.Exps.{plus}
+use Rattle.std.proofs.Common.{◌≡◌, ◌≢◌, ℕ, zero, suc, ◌+◌, ◌<◌, ◌≤◌, ◌^◌, Bool, true, false, cond, List, [], ◌∷◌, ◌++◌, map, length, get_or, take, refl, sym, ap, ap₂, subst, ◌∙◌, append-nil, ◌*◌, ◌⊎◌, inl, inr, arith}
+use Rattle.std.specs.Prelude.{Some, None, Result, Ok, Err, OnOk, All, Contains, filter, filter_map, flat_map}
+use Rattle.ring_theory.specs.Scalars.{Meaning}
 use Rattle.poly_law.specs.ExpList.{ExpList, exps}
-use Rattle.poly_law.specs.Polynomials.{Polynomial}
 use Rattle.mono_exp.specs.declared.exponent.Exp.{Exp}
-use Rattle.mono_exp.specs.Exponents.{IsIn, IsProduct, weighted_degree_of}
-use Rattle.jet_law.specs.Canonical.{monomial_in}
+use Rattle.mono_exp.specs.Exponents.{IsIn, weighted_degree_of}
 use Rattle.jet_law.specs.Heights.{IsHigh, summands_at}
 use Rattle.jet_law.specs.Terms.{exp_of, poly_of}
 use Rattle.jet_law.proofs.High.{high_head, high_left, high_right}
@@ -19,7 +15,7 @@ use Rattle.kill_law.specs.declared.lead.Lead.{Lead}
 use Rattle.kill_law.specs.Kill.{tail_of}
 use Rattle.kill_law.specs.Taken.{term_of, multiplied_heights, tail_heights}
 use Rattle.kill_table.specs.declared.reduction.Step.{Step}
-use Rattle.kill_table.specs.Terms.{AreIn, IsOfGrade, AreOfGrade, IsAdded, IsAddingHigh}
+use Rattle.kill_table.specs.Terms.{AreIn, AreOfGrade, IsAdded, IsAddingHigh}
 use Rattle.kill_table.specs.Steps.{step_of, IsTermBy, IsLeft, IsLeavingHigh, Takes}
 
 -- what holds of the new value of a call that succeeds

@@ -1,31 +1,28 @@
 -- The steps of a reduction in code are those of the definition.
-use Rattle.std.proofs.Common.{◌≡◌, ◌≢◌, ℕ, zero, suc, ◌+◌, ◌-◌, ◌*◌, ◌<◌, ◌≤◌, ◌⊎◌, inl, inr, Bool, true, false, ◌&&◌, cond, eqb, eqb-true, List, [], ◌∷◌, ◌++◌, map, length, get_or, take, drop, refl, sym, ap, ap₂, subst, ◌∙◌, append-nil, append_assoc, add-one, arith}
-use Rattle.std.specs.Prelude.{Option, Some, None, option_map, All, Contains, filter, flat_map, filter_map}
+use Rattle.std.proofs.Common.{◌≡◌, ◌≢◌, ℕ, zero, suc, ◌+◌, ◌-◌, ◌*◌, ◌<◌, ◌≤◌, ◌⊎◌, inl, inr, Bool, true, false, ◌&&◌, cond, eqb, eqb-true, List, [], ◌∷◌, ◌++◌, map, length, get_or, take, drop, refl, sym, ap, ap₂, subst, ◌∙◌, append-nil, append_assoc, arith}
+use Rattle.std.specs.Prelude.{Option, Some, None, All, filter, flat_map}
 use Rattle.std.specs.List.{AllByRecursion, list_all}
 use Rattle.std.proofs.lemmas.List.{map-append, length-map}
-use Rattle.ring_theory.specs.Scalars.{Scalars, Meaning}
-use Rattle.poly_law.specs.Exps.{plus}
-use Rattle.poly_law.specs.ExpList.{ExpList, exps}
+use Rattle.ring_theory.specs.Scalars.{Meaning}
+use Rattle.poly_law.specs.ExpList.{ExpList}
 use Rattle.poly_law.specs.Polynomials.{Polynomial}
 use Rattle.poly_law.proofs.ExpLists.{exps_are}
-use Rattle.poly_law.proofs.ExpLaws
 use Rattle.mono_exp.specs.declared.exponent.Exp.{Exp}
 use Rattle.mono_exp.specs.Exponents.{IsIn, IsProduct, weighted_degree_of}
 use Rattle.jet_law.specs.Canonical.{monomial_in}
 use Rattle.jet_law.specs.Heights.{IsHigh}
 use Rattle.jet_law.specs.Terms.{exp_of, poly_of}
-use Rattle.jet_law.proofs.High.{high_left, high_right, high_in}
-use Rattle.kill_law.specs.declared.lead.Entry.{Entry}
+use Rattle.jet_law.proofs.High.{high_left, high_right}
 use Rattle.kill_law.specs.declared.lead.Lead.{Lead}
 use Rattle.kill_law.specs.declared.part.Part.{Part}
 use Rattle.kill_law.specs.Table.{row}
 use Rattle.kill_law.specs.Kill.{first_lead, quotient, cofactor, tail_of}
 use Rattle.kill_law.specs.Taken as law
-use Rattle.kill_law.specs.Taken.{step_by, step_at, first_step, left_by, steps_of, steps_from, is_of_grade, terms_of_grade, step_heights, tail_heights, multiplied_heights, reduction, reduction_heights}
+use Rattle.kill_law.specs.Taken.{step_at, first_step, left_by, steps_of, steps_from, is_of_grade, terms_of_grade, step_heights, tail_heights, multiplied_heights, reduction, reduction_heights}
 use Rattle.kill_table.specs.declared.reduction.Step.{Step}
 use Rattle.kill_table.specs.Divisors.{HasNonzeroDivisors}
 use Rattle.kill_table.specs.Terms.{AreIn, IsOfGrade, AreOfGrade}
-use Rattle.kill_table.specs.Steps.{step_of, without, is_graded, IsFirstStep, IsTermBy, IsReady, IsLeft, IsLeavingHigh, IsWeighed, IsReduction}
+use Rattle.kill_table.specs.Steps.{step_of, without, is_graded, IsFirstStep, IsReady, IsLeft, IsLeavingHigh, IsWeighed, IsReduction}
 use Rattle.kill_table.proofs.Table.{only-in, more-in, entry-in, tail-weight, weight-sum, weight-same, tail-among, is-ready}
 
 -- ---- the first step

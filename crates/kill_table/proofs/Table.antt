@@ -1,12 +1,12 @@
 -- What the table of the leads says of variables and weighted degrees, by computation, and what follows for the entries of a lead.
-use Rattle.std.proofs.Common.{◌≡◌, ◌≢◌, ℕ, zero, suc, ◌+◌, ◌*◌, ◌<◌, ◌≤◌, ◌⊎◌, inl, inr, Bool, true, false, ◌&&◌, leb, ltb, eqb, eqb-true, ltb-true, List, [], ◌∷◌, ◌++◌, length, get_or, drop, refl, sym, ap, ap₂, subst, ◌∙◌, arith}
+use Rattle.std.proofs.Common.{◌≡◌, ◌≢◌, ℕ, zero, suc, ◌+◌, ◌*◌, ◌<◌, ◌≤◌, ◌⊎◌, inl, inr, Bool, true, ◌&&◌, leb, ltb, eqb, eqb-true, ltb-true, List, [], ◌∷◌, ◌++◌, length, get_or, drop, refl, sym, ap, ap₂, subst, ◌∙◌, arith}
 use Rattle.std.specs.Prelude.{Contains, All}
 use Rattle.std.specs.List.{list_all}
 use Rattle.std.proofs.lemmas.Bool.{leb-true}
 use Rattle.std.proofs.lemmas.List.Sums.{AllPass-from_list_all}
 use Rattle.std.proofs.lemmas.List.Elements.{Contains-append_left, Contains-append_right}
-use Rattle.ring_theory.specs.Scalars.{Scalars, Meaning}
-use Rattle.mono_exp.specs.Exponents.{IsIn, IsProduct, HasProduct, weighted_degree_of}
+use Rattle.ring_theory.specs.Scalars.{Meaning}
+use Rattle.mono_exp.specs.Exponents.{IsIn, weighted_degree_of}
 use Rattle.kill_law.specs.declared.lead.Entry.{Entry}
 use Rattle.kill_law.specs.declared.lead.Lead.{Lead}
 use Rattle.kill_law.specs.declared.part.Part.{Part}

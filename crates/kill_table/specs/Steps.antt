@@ -1,7 +1,7 @@
 -- Steps of a reduction as the program keeps them, and the terms that they give.
-use Rattle.std.specs.Prelude.{◌≡◌, ◌≢◌, ℕ, ◌+◌, ◌<◌, ◌⊎◌, ◌==◌, ◌&&◌, Bool, List, [], ◌∷◌, ◌++◌, map, flat_map, length, get_or, take, drop, Some, None, All, Contains}
+use Rattle.std.specs.Prelude.{◌≡◌, ◌≢◌, ℕ, ◌+◌, ◌<◌, ◌⊎◌, ◌==◌, ◌&&◌, Bool, List, [], ◌∷◌, ◌++◌, map, flat_map, length, get_or, take, drop, Some, None, Contains}
 use Rattle.std.specs.List.{AllByRecursion, list_all}
-use Rattle.ring_theory.specs.Scalars.{Scalars, Meaning}
+use Rattle.ring_theory.specs.Scalars.{Meaning}
 use Rattle.poly_law.specs.Exps.{variable}
 use Rattle.poly_law.specs.ExpList.{exps}
 use Rattle.poly_law.specs.Polynomials.{Polynomial, cut_in}

@@ -1,10 +1,9 @@
 -- A ternary cubic as a jet: its terms in order, one after the other.
-use Rattle.std.proofs.Common.{◌≡◌, ◌≢◌, ℕ, zero, suc, ◌+◌, ◌<◌, ◌≤◌, true, List, [], ◌∷◌, ◌++◌, map, zip, take, take_all, length, get_or, sum, All, refl, sym, ap, ap₂, ◌∙◌, subst, arith}
-use Rattle.std.specs.List.{AllByRecursion}
+use Rattle.std.proofs.Common.{◌≡◌, ◌≢◌, ℕ, zero, suc, ◌+◌, ◌<◌, ◌≤◌, true, List, [], ◌∷◌, ◌++◌, map, zip, take, length, get_or, sum, All, refl, sym, ap, ap₂, ◌∙◌, subst, arith}
 use Rattle.std.proofs.lemmas.List.{get_or-map}
 use Rattle.std.proofs.lemmas.List.Elements.{All-from_recursion}
 use Rattle.ring_theory.specs.Height.{rational_scalars}
-use Rattle.ring_theory.specs.Rational.{Rational, rational_ops}
+use Rattle.ring_theory.specs.Rational.{rational_ops}
 use Rattle.ring_theory.proofs.RationalLaws.{rational_scalar_laws}
 use Rattle.ring_law.specs.Fraction.{IsFrac, frac_value, rational_meaning}
 use Rattle.ring_law.specs.declared.fraction.Frac.{Frac}

@@ -8,7 +8,7 @@ use Rattle.lin_row.specs.Lines.{IsLine, AllBelow, EachOf, entry}
 use Rattle.lin_row.specs.Rows.{rows_of}
 use Rattle.lin_row.specs.Forms.{IsReducedForm, IsKernelBasis, IsKernelVector}
 use Rattle.lin_row.specs.declared.row.Row.{Row}
-use Rattle.ternary_law.specs.Linear.{HasRank, HasNoKernel, SpansKernel, HasKernelPlane}
+use Rattle.ternary_law.specs.Linear.{HasRank, HasNoKernel, HasKernelPlane}
 use Rattle.ternary_law.proofs.Forms
 use Rattle.tern_cubic.specs.Kernels.{IsKernel}
 use Rattle.tern_cubic.specs.declared.kernel.Kernel.TheVariants as kernels

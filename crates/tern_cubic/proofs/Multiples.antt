@@ -1,9 +1,9 @@
 -- The coefficients of a multiple of a polynomial by a monomial, and of a derivative in a variable that is not there.
-use Rattle.std.proofs.Common.{◌≡◌, ℕ, zero, suc, ◌+◌, ◌<◌, ◌≤◌, ◌⊎◌, inl, inr, Bool, true, false, cond, List, [], ◌∷◌, map, get_or, length, refl, sym, ap, ap₂, subst, ◌∙◌, append-nil, arith}
+use Rattle.std.proofs.Common.{◌≡◌, ℕ, zero, suc, ◌+◌, ◌<◌, ◌≤◌, ◌⊎◌, inl, inr, Bool, true, false, cond, List, [], ◌∷◌, get_or, length, refl, sym, ap, ap₂, ◌∙◌, append-nil, arith}
 use Rattle.std.proofs.lemmas.Bool.{cases_lt}
 use Rattle.ring_theory.specs.Ring.{RingOps, IsCommRing}
 use Rattle.poly_law.specs.Sums.{multiple}
-use Rattle.poly_law.specs.Exps.{same, plus, none, lower, degree}
+use Rattle.poly_law.specs.Exps.{same, plus, none, lower}
 use Rattle.poly_law.specs.ExpList.{ExpList, exps}
 use Rattle.poly_law.specs.Poly.{coefficient, times_term}
 use Rattle.poly_law.specs.Polynomials.{Polynomial, term_in, times_in, derivative_in}

@@ -1,4 +1,4 @@
-use Rattle.std.proofs.Common.{◌∙◌, sym, arith}
+use Rattle.std.proofs.Common.{◌∙◌, arith}
 use Rattle.certificate.proofs.Inverses.{is_zero_by, found_zero, units_more, all_units}
 use Rattle.certificate.proofs.unit.are_units.Goals as goal
 

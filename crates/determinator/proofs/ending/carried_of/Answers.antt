@@ -1,16 +1,10 @@
-use Rattle.std.proofs.Common.{◌≡◌, ℕ, ap, sym, subst, ◌∙◌}
+use Rattle.std.proofs.Common.{◌≡◌, subst, ◌∙◌}
 use Rattle.std.specs.List.{All}
 use Rattle.ring_law.proofs.Exits.{fault_handed_on}
-use Rattle.ring_law.specs.declared.fraction.Frac.{Frac}
-use Rattle.ext_algebra.specs.declared.algebra.Ext.{Ext}
 use Rattle.ext_algebra.specs.Algebra.{scalars}
-use Rattle.jet_poly.specs.JetTerms.{JetTerms}
-use Rattle.poly_text.specs.declared.name.Name.{Name}
-use Rattle.cert_text.specs.declared.report.Carried as carried_type
 use Rattle.cert_text.specs.declared.report.Phase.TheVariants as phases
 use Rattle.move_law.specs.Algebras.{lifted}
 use Rattle.move_law.specs.Work.{composing_work}
-use Rattle.determinator.specs.Carried.{with_parts}
 use Rattle.determinator.specs.Jets.{IsListed}
 use Rattle.determinator.proofs.Carrying.{from_chain}
 use Rattle.determinator.proofs.Pieces.{high_over, composing_high}

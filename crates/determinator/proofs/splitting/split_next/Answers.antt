@@ -1,4 +1,4 @@
-use Rattle.std.proofs.Common.{◌≡◌, ◌≢◌, ℕ, suc, ◌-◌, ◌<◌, ◌≤◌, List, [], ◌∷◌, map, length, All, sym, subst, ◌∙◌, ap, arith}
+use Rattle.std.proofs.Common.{◌≡◌, ◌≢◌, suc, ◌-◌, ◌<◌, ◌≤◌, List, [], ◌∷◌, map, length, All, sym, subst, ◌∙◌, ap, arith}
 use Rattle.std.specs.List.{AllByRecursion}
 use Rattle.std.proofs.lemmas.List.{length-map}
 use Rattle.std.proofs.lemmas.List.Elements.{All-from_recursion}
@@ -7,13 +7,10 @@ use Rattle.ring_law.specs.declared.fraction.Frac.{Frac}
 use Rattle.ext_algebra.specs.declared.algebra.Ext.{Ext}
 use Rattle.ext_algebra.specs.Algebra.{Value, scalars, value_in, algebra_meaning}
 use Rattle.jet_law.specs.Terms.{poly_of}
-use Rattle.jet_poly.specs.JetTerms.{JetTerms}
 use Rattle.move_law.specs.Algebras.{lifted}
 use Rattle.move_law.specs.Split.{split_move, split_work, squares_in}
-use Rattle.coord_change.specs.MoveJets.{IsJetFor}
 use Rattle.split_lemma.specs.Splits.{AnyHigh}
 use Rattle.coord_change.specs.MoveJets.{IsMoveExactly}
-use Rattle.plan_law.specs.Run.{brought}
 use Rattle.determinator.proofs.SplitLemmas.{high_growing, high_pushing, units, placed_next, split_is, split_high, grown_jet, standing_of, move}
 use Rattle.determinator.proofs.SplitTests.{squares_count}
 use Rattle.determinator.proofs.Terms.{unmapped}

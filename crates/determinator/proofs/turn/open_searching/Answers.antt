@@ -1,4 +1,4 @@
-use Rattle.std.proofs.Common.{ℕ, suc}
+use Rattle.std.proofs.Common.{suc}
 use Rattle.cert_text.specs.declared.report.Phase.TheVariants as phases
 use Rattle.determinator.proofs.Exits.{stop_high}
 use Rattle.determinator.proofs.Turning.{opening_split, opens_without_move}

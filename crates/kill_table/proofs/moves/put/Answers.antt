@@ -1,18 +1,15 @@
-use Rattle.std.proofs.Common.{◌≡◌, ◌<◌, ◌≤◌, ◌∙◌, inl, inr, List, [], ◌∷◌, ◌++◌, All, map, length, take, take_all, sym, ap, subst, arith}
-use Rattle.std.specs.List.{AllByRecursion}
-use Rattle.ring_law.proofs.Exits.{fault_handed_on, faulted_by}
+use Rattle.std.proofs.Common.{◌≡◌, ◌<◌, ◌≤◌, ◌∙◌, inl, inr, [], ◌∷◌, ◌++◌, All, map, take_all, sym, ap, subst, arith}
+use Rattle.ring_law.proofs.Exits.{fault_handed_on}
 use Rattle.poly_law.specs.ExpList.{exps}
 use Rattle.poly_law.specs.Polynomials.{cut_in}
 use Rattle.poly_law.specs.Poly.{coefficient}
 use Rattle.mono_exp.specs.declared.exponent.Exp.{Exp}
 use Rattle.mono_exp.specs.Exponents.{IsIn}
 use Rattle.jet_law.specs.Heights.{IsHigh, sums_heights}
-use Rattle.jet_law.specs.Terms.{exp_of, poly_of}
+use Rattle.jet_law.specs.Terms.{poly_of}
 use Rattle.jet_poly.specs.JetTerms.{JetTerms}
 use Rattle.coord_change.specs.Linear.{one_at}
-use Rattle.coord_change.proofs.ChangeLemmas
 use Rattle.kill_law.specs.Kill.{cofactor}
-use Rattle.kill_table.specs.declared.reduction.Step.{Step}
 use Rattle.kill_table.specs.Moves.{IsPutFor}
 use Rattle.kill_table.specs.Steps.{IsReady, Takes, put_by}
 use Rattle.kill_table.proofs.Steps.{all-at, all-each}

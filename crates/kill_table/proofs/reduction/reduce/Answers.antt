@@ -1,5 +1,5 @@
-use Rattle.std.proofs.Common.{◌≡◌, ℕ, ◌+◌, ◌*◌, ◌<◌, ◌≤◌, ◌∙◌, List, [], ◌∷◌, ◌++◌, All, map, length, sym, ap, subst, arith}
-use Rattle.std.specs.Prelude.{None, Contains}
+use Rattle.std.proofs.Common.{◌≡◌, ◌+◌, ◌*◌, ◌<◌, ◌≤◌, ◌∙◌, List, [], ◌∷◌, ◌++◌, All, map, length, sym, ap, subst, arith}
+use Rattle.std.specs.Prelude.{None}
 use Rattle.ring_law.proofs.Exits.{fault_handed_on}
 use Rattle.mono_exp.specs.declared.exponent.Exp.{Exp}
 use Rattle.mono_exp.specs.Exponents.{IsIn}
@@ -7,9 +7,8 @@ use Rattle.jet_law.specs.Terms.{exp_of, poly_of}
 use Rattle.kill_law.specs.declared.lead.Lead.{Lead}
 use Rattle.kill_law.specs.Table.{row}
 use Rattle.kill_law.specs.Kill.{first_lead}
-use Rattle.kill_table.specs.declared.reduction.Step.{Step}
 use Rattle.kill_table.specs.Terms.{IsOfGrade}
-use Rattle.kill_table.specs.Steps.{IsFirstStep, IsReduction}
+use Rattle.kill_table.specs.Steps.{IsFirstStep}
 use Rattle.kill_table.proofs.Table.{more-in, leads-in, tail-among}
 use Rattle.kill_table.proofs.Steps.{IsReducing, begins, reduces, finishes-early, finishes-late, leaving-high, found-ready, graded_terms, all-each}
 use Rattle.kill_table.proofs.reduction.reduce.Goals as goal

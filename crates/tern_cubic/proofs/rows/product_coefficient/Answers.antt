@@ -1,9 +1,8 @@
-use Rattle.std.proofs.Common.{◌≡◌, false, true, ◌+◌, ◌∙◌, get_or, sym, ap, subst, arith}
+use Rattle.std.proofs.Common.{◌≡◌, false, true, ◌+◌, ◌∙◌, sym, ap, arith}
 use Rattle.ring_theory.specs.Rational.{rational_ops}
 use Rattle.ring_theory.proofs.RationalLaws.{rational_scalar_laws}
 use Rattle.ring_law.specs.Fraction.{frac_value}
 use Rattle.poly_law.specs.Polynomials.{coefficient_in, term_in, times_in}
-use Rattle.mono_exp.specs.Exponents.{IsIn}
 use Rattle.jet_law.specs.Terms.{exp_of}
 use Rattle.tern_cubic.proofs.Multiples.{at_multiple, no_multiple, product_is, divides_if, quotient_in}
 use Rattle.tern_cubic.proofs.RowLemmas.{coefficient_read}

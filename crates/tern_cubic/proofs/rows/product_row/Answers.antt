@@ -1,8 +1,8 @@
 use Rattle.std.proofs.Common.{◌≡◌, ℕ, ◌<◌, ◌≤◌, ◌+◌, ◌∙◌, [], cond, ltb, length, get_or, sym, ap, ap₂, subst, arith}
 use Rattle.ring_theory.specs.Rational.{Rational, rational_ops}
 use Rattle.ring_theory.proofs.RationalLaws.{rational_scalar_laws}
-use Rattle.ring_law.specs.Fraction.{frac_value, rational_meaning}
-use Rattle.poly_law.specs.Polynomials.{Polynomial, coefficient_in, term_in, times_in}
+use Rattle.ring_law.specs.Fraction.{rational_meaning}
+use Rattle.poly_law.specs.Polynomials.{coefficient_in, term_in, times_in}
 use Rattle.jet_law.specs.Terms.{exp_of}
 use Rattle.lin_row.specs.Lines.{AllBelow, entry, unit_at}
 use Rattle.tern_cubic.specs.Rows.{monomial_at}

@@ -1,13 +1,11 @@
 use Rattle.std.proofs.Common.{◌≡◌, ◌∙◌, ◌<◌, [], length, map, take_all, refl, sym, ap, subst, arith}
 use Rattle.ring_theory.specs.Rational.{Rational, rational_ops}
 use Rattle.ring_law.specs.Fraction.{frac_value, rational_meaning}
-use Rattle.ring_law.specs.declared.fraction.Frac.{Frac}
 use Rattle.ring_law.proofs.Exits.{fault_handed_on}
 use Rattle.poly_law.specs.Polynomials.{Polynomial, derivative_in}
 use Rattle.mono_exp.specs.declared.exponent.Exp.{Exp}
 use Rattle.mono_exp.specs.Exponents.{exponents}
 use Rattle.jet_law.specs.Terms.{poly_of}
-use Rattle.jet_poly.specs.JetTerms.{JetTerms}
 use Rattle.lin_row.specs.Lines.{entry}
 use Rattle.jacobian_row.specs.Multiples.{AreMultiples, pair_of}
 use Rattle.jacobian_row.specs.Multipliers.{multiple_at}
