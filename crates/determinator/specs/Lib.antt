@@ -3,6 +3,7 @@ pub mod Reports
 pub mod Places
 pub mod Carried
 pub mod Turns
+pub mod Steps
 pub mod Starts
 pub mod Answered
 pub mod Naming

@@ -1,22 +1,13 @@
 //! The answers in which a run ends without a name.
 
-ghost use Rattle.std.specs.Prelude.{◌≡◌, ℕ, ◌≤◌, List, IfOk, All};
-ghost use Rattle.ring_theory.specs.Rational.{Rational};
+ghost use Rattle.std.specs.Prelude.{◌≡◌, ◌≤◌, IfOk, All};
 ghost use Rattle.ring_law.specs.Refusals.{OnFault};
-ghost use Rattle.poly_law.specs.Polynomials.{Polynomial};
-ghost use Rattle.ext_algebra.specs.Algebra.{Value, IsFieldAlgebra};
+ghost use Rattle.ext_algebra.specs.Algebra.{IsFieldAlgebra};
 ghost use Rattle.ext_algebra.specs.declared.algebra.Algebra.TheVariants as algebras;
-ghost use Rattle.cert_text.specs.declared.report.Phase.TheVariants as phases;
-ghost use Rattle.coord_change.specs.Moves.{Move};
-ghost use Rattle.normal_forms.specs.declared.pattern.Pattern.TheVariants as patterns;
 ghost use Rattle.coord_change.specs.Chains.{carried_in};
-ghost use Rattle.plan_law.specs.Outcomes as outcomes;
-ghost use Rattle.plan_law.specs.Pieces.{HasHigh};
-ghost use Rattle.plan_law.specs.Run.{brought, carried_by, composing_pieces};
-ghost use Rattle.determinator.specs.Carried.{IsCarriedFrom, IsWithoutResidual};
 ghost use Rattle.determinator.specs.Jets.{IsListed, IsFailureFor};
-ghost use Rattle.determinator.specs.Places.{IsPlace, IsPlaced};
-ghost use Rattle.determinator.specs.Reports.{AreNames, IsReport};
+ghost use Rattle.determinator.specs.Places.{IsPlaced};
+ghost use Rattle.determinator.specs.Steps.{IsComposingHigh, IsCarried, IsLimit, IsOutside};
 
 use crate::jet::{see_places, see_terms};
 use cert_text::{Answer, Carried, Limit, Outside};
@@ -62,10 +53,8 @@ pub fn carried_of(
 ) -> Result<Carried, Fault>
     requires field { IsFieldAlgebra algebra }
     requires placed { IsPlaced corank algebra chain.now }
-    ensures carried { IfOk result (λ r. (n last o : ℕ) (germ : Polynomial n Rational) (moves : List (Move n (Value algebra)))
-        → IsPlace n corank last germ algebra o moves chain.now → IsCarriedFrom names.now n corank algebra o moves chain.now r) }
-    ensures range { OnFault result ((n last o : ℕ) (germ : Polynomial n Rational) (moves : List (Move n (Value algebra)))
-        → IsPlace n corank last germ algebra o moves chain.now → HasHigh phases.Finish (composing_pieces algebra o moves)) }
+    ensures carried { IfOk result (IsCarried corank algebra chain.now names.now) }
+    ensures range { OnFault result (IsComposingHigh corank algebra chain.now) }
 {
     let field = AlgebraField { algebra };
     let change = composite(chain, alloc, &field)?;
@@ -100,10 +89,8 @@ pub fn limited(
     requires placed { IsPlaced corank algebra chain.now }
     requires few { corank ≤ 3 }
     requires failure { IsFailureFor algebra corank (carried_in chain.now) functional at }
-    ensures report { IfOk result (λ r. (n o : ℕ) (germ : Polynomial n Rational) (moves : List (Move n (Value algebra))) → AreNames n names.now → 3 ≤ o
-        → IsPlace n corank o germ algebra o moves chain.now → IsReport names.now n o germ r (outcomes.limit (carried_by n corank germ algebra o moves (brought n corank germ algebra o moves)))) }
-    ensures range { OnFault result ((n last o : ℕ) (germ : Polynomial n Rational) (moves : List (Move n (Value algebra)))
-        → IsPlace n corank last germ algebra o moves chain.now → HasHigh phases.Finish (composing_pieces algebra o moves)) }
+    ensures report { IfOk result (IsLimit corank algebra chain.now names.now) }
+    ensures range { OnFault result (IsComposingHigh corank algebra chain.now) }
 {
     see_places(functional.as_slice());
     let carried = carried_of(alloc, names, algebra, corank, chain)?;
@@ -126,11 +113,8 @@ pub fn outside(
     requires field { IsFieldAlgebra algebras.Rational }
     requires placed { IsPlaced corank algebras.Rational chain.now }
     requires many { 4 ≤ corank }
-    ensures report { IfOk result (λ r. (n last : ℕ) (germ : Polynomial n Rational) (moves : List (Move n Rational)) → AreNames n names.now
-        → IsPlace n corank last germ algebras.Rational 2 moves chain.now → IsWithoutResidual n corank (brought n corank germ algebras.Rational 2 moves)
-        → IsReport names.now n last germ r (outcomes.outside patterns.O (carried_by n corank germ algebras.Rational 2 moves (brought n corank germ algebras.Rational 2 moves)))) }
-    ensures range { OnFault result ((n last o : ℕ) (germ : Polynomial n Rational) (moves : List (Move n Rational))
-        → IsPlace n corank last germ algebras.Rational o moves chain.now → HasHigh phases.Finish (composing_pieces algebras.Rational o moves)) }
+    ensures report { IfOk result (IsOutside corank chain.now names.now) }
+    ensures range { OnFault result (IsComposingHigh corank algebras.Rational chain.now) }
 {
     let carried = carried_of(alloc, names, Algebra::Rational, corank, chain)?;
     Ok(Answer::Outside(Outside {

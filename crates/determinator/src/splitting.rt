@@ -1,15 +1,10 @@
 //! The beginning of an order: the chain is brought to it, and the square variables are split off.
 
-ghost use Rattle.std.specs.Prelude.{◌≡◌, ℕ, suc, ◌<◌, ◌≤◌, List, IfOk, OnOk};
+ghost use Rattle.std.specs.Prelude.{◌<◌, OnOk};
 ghost use Rattle.ring_law.specs.Refusals.{OnFault};
-ghost use Rattle.ring_theory.specs.Rational.{Rational};
-ghost use Rattle.poly_law.specs.Polynomials.{Polynomial};
-ghost use Rattle.ext_algebra.specs.Algebra.{Value, IsFieldAlgebra};
-ghost use Rattle.cert_text.specs.declared.report.Phase.TheVariants as phases;
-ghost use Rattle.coord_change.specs.Moves.{Move};
-ghost use Rattle.plan_law.specs.Pieces.{HasHigh};
-ghost use Rattle.plan_law.specs.Run.{split_at, split_pieces};
-ghost use Rattle.determinator.specs.Places.{IsPlace, IsPlaced};
+ghost use Rattle.ext_algebra.specs.Algebra.{IsFieldAlgebra};
+ghost use Rattle.determinator.specs.Places.{IsPlaced};
+ghost use Rattle.determinator.specs.Steps.{IsSplitNext, IsSplittingHigh};
 
 use crate::jet::squares_of;
 use coord_change::{Chain, Steps, grow, push};
@@ -21,7 +16,8 @@ use std::sync::ledger::Ledger;
 
 /// The chain at the next order, with the split move of that degree.
 ///
-/// Errors: `Range` only where bringing the chain to that order, or the split move, forms a number of height 2^120 or more.
+/// Errors: `Range` only where bringing the chain to that order, or the split move, forms a number of height 2^120 or more. The chain may then stand at the next order without the
+/// split move.
 pub fn split_next<L: Ledger>(
     alloc: Global,
     algebra: Algebra,
@@ -32,10 +28,8 @@ pub fn split_next<L: Ledger>(
     requires field { IsFieldAlgebra algebra }
     requires placed { IsPlaced corank algebra chain.old }
     requires below_last { chain.old.order < chain.old.germ.order }
-    ensures chain { OnOk result ((n last o : ℕ) (germ : Polynomial n Rational) (moves : List (Move n (Value algebra)))
-        → IsPlace n corank last germ algebra o moves chain.old → IsPlace n corank last germ algebra (suc o) (split_at n corank germ algebra (suc o) moves).moves chain.new) }
-    ensures range { OnFault result ((n last o : ℕ) (germ : Polynomial n Rational) (moves : List (Move n (Value algebra)))
-        → IsPlace n corank last germ algebra o moves chain.old → HasHigh phases.Split (split_pieces n corank germ algebra (suc o) moves)) }
+    ensures chain { OnOk result (IsSplitNext corank algebra chain.old chain.new) }
+    ensures range { OnFault result (IsSplittingHigh corank algebra chain.old) }
 {
     let field = AlgebraField { algebra };
     grow(chain, alloc, &field, steps)?;

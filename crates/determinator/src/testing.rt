@@ -1,17 +1,12 @@
 //! Mather's test of a carried jet.
 
-ghost use Rattle.std.specs.Prelude.{◌≡◌, ℕ, List, IfOk};
+ghost use Rattle.std.specs.Prelude.{IfOk};
 ghost use Rattle.ring_law.specs.Refusals.{OnFault};
-ghost use Rattle.ring_theory.specs.Rational.{Rational};
-ghost use Rattle.poly_law.specs.Polynomials.{Polynomial};
-ghost use Rattle.coord_change.specs.Moves.{Move};
-ghost use Rattle.ext_algebra.specs.Algebra.{Value, scalars, IsFieldAlgebra};
-ghost use Rattle.determinacy.specs.Tests.{IsTestHigh};
-ghost use Rattle.move_law.specs.Moves.{residual};
+ghost use Rattle.ext_algebra.specs.Algebra.{IsFieldAlgebra};
 ghost use Rattle.coord_change.specs.Chains.{carried_in};
-ghost use Rattle.plan_law.specs.Run.{brought};
 ghost use Rattle.determinator.specs.Jets.{IsTestedBy};
-ghost use Rattle.determinator.specs.Places.{IsPlace, IsPlaced};
+ghost use Rattle.determinator.specs.Places.{IsPlaced};
+ghost use Rattle.determinator.specs.Steps.{IsTestingHigh};
 
 use crate::jet::residual_part;
 use coord_change::Chain;
@@ -32,8 +27,7 @@ pub fn test(
     requires field { IsFieldAlgebra algebra }
     requires placed { IsPlaced corank algebra chain.now }
     ensures tested { IfOk result (IsTestedBy algebra corank (carried_in chain.now)) }
-    ensures range { OnFault result ((n last o : ℕ) (germ : Polynomial n Rational) (moves : List (Move n (Value algebra)))
-        → IsPlace n corank last germ algebra o moves chain.now → IsTestHigh corank (scalars algebra) o (residual n (scalars algebra) corank o (brought n corank germ algebra o moves))) }
+    ensures range { OnFault result (IsTestingHigh corank algebra chain.now) }
 {
     let field = AlgebraField { algebra };
     let g = residual_part(alloc, corank, chain.carried())?;

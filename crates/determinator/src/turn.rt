@@ -1,16 +1,10 @@
 //! The turns of a run: from the test of one order to that of the next.
 
-ghost use Rattle.std.specs.Prelude.{ℕ, suc, ◌<◌, ◌≤◌, List, IfOk};
-ghost use Rattle.ring_theory.specs.Rational.{Rational};
-ghost use Rattle.poly_law.specs.Polynomials.{Polynomial};
+ghost use Rattle.std.specs.Prelude.{◌<◌, ◌≤◌, IfOk};
 ghost use Rattle.ext_algebra.specs.Algebra.{IsFieldAlgebra};
 ghost use Rattle.ext_algebra.specs.declared.algebra.Algebra.TheVariants as algebras;
-ghost use Rattle.poly_text.specs.declared.name.Name.{Name};
-ghost use Rattle.coord_change.specs.Moves.{Move};
-ghost use Rattle.plan_law.specs.Run as run;
-ghost use Rattle.plan_law.specs.Run.{searching};
-ghost use Rattle.determinator.specs.Places.{IsPlace, IsPlaced, OnStop};
-ghost use Rattle.determinator.specs.Turns.{IsOpened, IsOpeningHigh};
+ghost use Rattle.determinator.specs.Places.{IsPlaced, OnStop};
+ghost use Rattle.determinator.specs.Steps.{IsOpenedNext, IsOpeningNextHigh};
 
 use crate::splitting::split_next;
 use crate::step::Step;
@@ -35,10 +29,8 @@ pub fn open_searching<L: Ledger>(
     requires placed { IsPlaced corank algebras.Rational chain }
     requires few { corank ≤ 1 }
     requires below_last { chain.order < chain.germ.order }
-    ensures opened { IfOk result (λ next. (names : List Name) (n last o : ℕ) (germ : Polynomial n Rational) (moves : List (Move n Rational))
-        → IsPlace n corank last germ algebras.Rational o moves chain → IsOpened names n corank last germ (suc o) (searching moves) next) }
-    ensures range { OnStop result (λ p. (n last o : ℕ) (germ : Polynomial n Rational) (moves : List (Move n Rational))
-        → IsPlace n corank last germ algebras.Rational o moves chain → IsOpeningHigh n corank last germ p (suc o) (searching moves)) }
+    ensures opened { IfOk result (IsOpenedNext corank chain) }
+    ensures range { OnStop result (IsOpeningNextHigh corank chain) }
 {
     match split_next(alloc, Algebra::Rational, corank, &mut chain, steps) {
         Ok(()) => Ok(Step::Searching(chain)),
