@@ -22,6 +22,10 @@ use Rattle.move_law.specs.Split.{squares_in}
 use Rattle.split_lemma.specs.SplitForms.{IsSplitUpTo, split_off}
 
 module _ {V : Type 0} (n : ℕ) (s : Scalars V) (c : ℕ) where
+  -- the coefficient of f at a monomial without square variables
+  abbrev pub residual_at : Polynomial n V → ExpList c → V
+  residual_at f b = coefficient_in n s.ops f (place (exps n) (exps c) s.ops b)
+
   -- the residual part of f up to degree k has no term of degree below that of the part
   abbrev pub StartsAtPart : ℕ → Part → Polynomial n V → Type 0
   StartsAtPart k p f = StartsAtIn c s.ops (row p).degree (residual n s c k f)
@@ -29,7 +33,7 @@ module _ {V : Type 0} (n : ℕ) (s : Scalars V) (c : ℕ) where
   -- in the degree of the part, the residual terms of f are its form with the letters of f
   abbrev pub HasForm : Part → Polynomial n V → Type 0
   HasForm p f = (b : ExpList c) → degree (exps c) b ≡ (row p).degree
-      → coefficient_in n s.ops f (place (exps n) (exps c) s.ops b) ≡ coefficient_in c s.ops (form_of s (letters_of n s p f) c p) b
+      → residual_at f b ≡ coefficient_in c s.ops (form_of s (letters_of n s p f) c p) b
 
   -- the split move of degree o + 1 keeps the letters, and that nothing residual stands below the degree of the part
   pub record SplitKeepsPart (o : ℕ) (p : Part) (f : Polynomial n V) : Type 0 where
@@ -51,9 +55,9 @@ module _ {V : Type 0} (n : ℕ) (s : Scalars V) (c : ℕ) where
 
   -- the residual terms of f have at least the weighted degree of the part, and those of this degree are its form with the letters of f
   pub record HasPrincipalPart (p : Part) (f : Polynomial n V) : Type 0 where
-    pub above : (b : ExpList c) → weighted_degree_of (row p).weights b.entries < (row p).degree → coefficient_in n s.ops f (place (exps n) (exps c) s.ops b) ≡ s.ops.zero
+    pub above : (b : ExpList c) → weighted_degree_of (row p).weights b.entries < (row p).degree → residual_at f b ≡ s.ops.zero
     pub form : (b : ExpList c) → weighted_degree_of (row p).weights b.entries ≡ (row p).degree
-        → coefficient_in n s.ops f (place (exps n) (exps c) s.ops b) ≡ coefficient_in c s.ops (form_of s (letters_of n s p f) c p) b
+        → residual_at f b ≡ coefficient_in c s.ops (form_of s (letters_of n s p f) c p) b
 
   -- f carried by its kill move of a grade of a part, up to degree k
   abbrev pub kill_grade : ℕ → ℕ → Part → Polynomial n V → Polynomial n V
@@ -65,9 +69,17 @@ module _ {V : Type 0} (n : ℕ) (s : Scalars V) (c : ℕ) where
     pub split : IsSplitUpTo n s c k (kill_grade k grade p f)
     pub squares : squares_in n s c (kill_grade k grade p f) ≡ squares_in n s c f
     pub below : (b : ExpList c) → degree (exps c) b ≤ k → weighted_degree_of (row p).weights b.entries < grade
-        → coefficient_in n s.ops (kill_grade k grade p f) (place (exps n) (exps c) s.ops b) ≡ coefficient_in n s.ops f (place (exps n) (exps c) s.ops b)
+        → residual_at (kill_grade k grade p f) b ≡ residual_at f b
     pub reduced : (l : Lead) → Contains (row p).leads l → (b : ExpList c) → degree (exps c) b ≤ k → weighted_degree_of (row p).weights b.entries ≡ grade
-        → divides c (monomial_in c l.monomial) b ≡ true → coefficient_in n s.ops (kill_grade k grade p f) (place (exps n) (exps c) s.ops b) ≡ s.ops.zero
+        → divides c (monomial_in c l.monomial) b ≡ true → residual_at (kill_grade k grade p f) b ≡ s.ops.zero
+
+-- the moves put nothing constant for a variable
+abbrev pub HaveNoConstants : {V : Type 0} → (n : ℕ) → Scalars V → List (Move n V) → Type 0
+HaveNoConstants n s moves = AllByRecursion (λ m. HaveNoConstant n s.ops n (put n s m)) moves
+
+-- what the leads of the part are divided by is invertible, for these letters
+abbrev pub LeadsAreInvertible : {V : Type 0} → Scalars V → List V → Part → Type 0
+LeadsAreInvertible s letters p = (l : Lead) → Contains (row p).leads l → HasInvertibleDivisors s letters l
 
 -- all weights of the part are 1: its form is homogeneous
 abbrev pub IsBasePart : Part → Type 0
@@ -80,53 +92,58 @@ module _ {V : Type 0} (s : Scalars V) where
 
   -- of two polynomials that agree up to degree o, at least that of the part: where one has no residual term below the degree of the part, the other has none
   abbrev pub LowAgrees : Type 0
-  LowAgrees = (n c o k : ℕ) (p : Part) → c ≤ n → (row p).degree ≤ o → o ≤ k → (f g : Polynomial n V) → SameToIn n s.ops o f g → StartsAtPart n s c o p g → StartsAtPart n s c k p f
+  LowAgrees = (n c o k : ℕ) (p : Part) → c ≤ n → (row p).degree ≤ o → o ≤ k → (f g : Polynomial n V) → SameToIn n s.ops o f g
+      → StartsAtPart n s c o p g → StartsAtPart n s c k p f
 
   -- the squares of a carried jet are those of the jet of the next order
   abbrev pub SquaresStay : Type 0
-  SquaresStay = (n c o : ℕ) → 2 ≤ o → (moves : List (Move n V)) → AllByRecursion (λ m. HaveNoConstant n s.ops n (put n s m)) moves → (g : Polynomial n V)
+  SquaresStay = (n c o : ℕ) → 2 ≤ o → (moves : List (Move n V)) → HaveNoConstants n s moves → (g : Polynomial n V)
       → squares_in n s c (carry_all n s (suc o) moves (jet n s (suc o) g)) ≡ squares_in n s c (carry_all n s o moves (jet n s o g))
 
   -- and it is split up to degree o where that is
   abbrev pub SplitStays : Type 0
-  SplitStays = (n c o : ℕ) (moves : List (Move n V)) → AllByRecursion (λ m. HaveNoConstant n s.ops n (put n s m)) moves → (g : Polynomial n V)
+  SplitStays = (n c o : ℕ) (moves : List (Move n V)) → HaveNoConstants n s moves → (g : Polynomial n V)
       → IsSplitUpTo n s c o (carry_all n s o moves (jet n s o g)) → IsSplitUpTo n s c o (carry_all n s (suc o) moves (jet n s (suc o) g))
 
   -- the letters of the part of a carried jet are those of the jet of the next order
   abbrev pub LettersStay : Type 0
-  LettersStay = (n o : ℕ) (p : Part) → (row p).degree ≤ o → (moves : List (Move n V)) → AllByRecursion (λ m. HaveNoConstant n s.ops n (put n s m)) moves → (g : Polynomial n V)
+  LettersStay = (n o : ℕ) (p : Part) → (row p).degree ≤ o → (moves : List (Move n V)) → HaveNoConstants n s moves → (g : Polynomial n V)
       → letters_of n s p (carry_all n s (suc o) moves (jet n s (suc o) g)) ≡ letters_of n s p (carry_all n s o moves (jet n s o g))
 
   -- where nothing residual stands below the degree of the part in a carried jet, nothing does in the jet of the next order
   abbrev pub LowStays : Type 0
-  LowStays = (n c o : ℕ) (p : Part) → c ≤ n → (row p).degree ≤ o → (moves : List (Move n V)) → AllByRecursion (λ m. HaveNoConstant n s.ops n (put n s m)) moves → (g : Polynomial n V)
+  LowStays = (n c o : ℕ) (p : Part) → c ≤ n → (row p).degree ≤ o → (moves : List (Move n V)) → HaveNoConstants n s moves → (g : Polynomial n V)
       → StartsAtPart n s c o p (carry_all n s o moves (jet n s o g)) → StartsAtPart n s c (suc o) p (carry_all n s (suc o) moves (jet n s (suc o) g))
 
   -- carried jets of a germ without terms of degree below 2 have none
   abbrev pub JetsLow : Type 0
-  JetsLow = (n k : ℕ) → 1 ≤ k → (moves : List (Move n V)) → AllByRecursion (λ m. HaveNoConstant n s.ops n (put n s m)) moves → (g : Polynomial n V) → StartsAtIn n s.ops 2 g
+  JetsLow = (n k : ℕ) → 1 ≤ k → (moves : List (Move n V)) → HaveNoConstants n s moves → (g : Polynomial n V) → StartsAtIn n s.ops 2 g
       → StartsAtIn n s.ops 2 (carry_all n s k moves (jet n s k g))
 
   -- what the split move of a degree above that of the part keeps, where f has no terms of degree below 2, is split up to degree 2, and nothing residual stands below the degree of the part
   abbrev pub AllSplitsKeep : Type 0
-  AllSplitsKeep = (n c o : ℕ) (p : Part) → c ≤ n → (row p).degree ≤ o → (f : Polynomial n V) → StartsAtIn n s.ops 2 f → IsSplitUpTo n s c 2 f → StartsAtPart n s c (suc o) p f
+  AllSplitsKeep = (n c o : ℕ) (p : Part) → c ≤ n → (row p).degree ≤ o → (f : Polynomial n V) → StartsAtIn n s.ops 2 f → IsSplitUpTo n s c 2 f
+      → StartsAtPart n s c (suc o) p f
       → SplitKeepsPart n s c o p f
 
   -- what the kill move of a base part, of a degree above that of the part, keeps, where f is split up to that degree and nothing residual stands below the degree of the part
   abbrev pub AllKillsKeep : Type 0
-  AllKillsKeep = (n c o : ℕ) (p : Part) → c ≤ n → length (row p).weights ≡ c → IsBasePart p → (row p).degree ≤ o → (f : Polynomial n V) → IsSplitUpTo n s c (suc o) f
+  AllKillsKeep = (n c o : ℕ) (p : Part) → c ≤ n → length (row p).weights ≡ c → IsBasePart p → (row p).degree ≤ o → (f : Polynomial n V)
+      → IsSplitUpTo n s c (suc o) f
       → StartsAtPart n s c (suc o) p f → KillKeepsPart n s c o p f
 
   -- and in its degree no monomial that a lead of the part divides is left, where the residual terms of the part's degree are its form, and what the leads are divided by
   -- is invertible
   abbrev pub KillsLeaveNoLead : Type 0
-  KillsLeaveNoLead = (n c o : ℕ) (p : Part) → c ≤ n → length (row p).weights ≡ c → IsBasePart p → (row p).degree ≤ o → (f : Polynomial n V) → IsSplitUpTo n s c (suc o) f
+  KillsLeaveNoLead = (n c o : ℕ) (p : Part) → c ≤ n → length (row p).weights ≡ c → IsBasePart p → (row p).degree ≤ o → (f : Polynomial n V)
+      → IsSplitUpTo n s c (suc o) f
       → StartsAtPart n s c (suc o) p f → HasForm n s c p f
-      → ((l : Lead) → Contains (row p).leads l → HasInvertibleDivisors s (letters_of n s p f) l)
+      → LeadsAreInvertible s (letters_of n s p f) p
       → (l : Lead) → Contains (row p).leads l → (m : ExpList n) → degree (exps n) m ≡ suc o → divides n (monomial_in n l.monomial) m ≡ true
       → coefficient_in n s.ops (kill_off n s c (suc o) p f) m ≡ s.ops.zero
 
   -- so for each grade above the degree of the part, where f is split up to degree k, has the principal part, and what the leads are divided by is invertible
   abbrev pub GradesAreKilled : Type 0
-  GradesAreKilled = (n c k grade : ℕ) (p : Part) → c ≤ n → length (row p).weights ≡ c → 2 ≤ k → (row p).degree < grade → (f : Polynomial n V) → IsSplitUpTo n s c k f → HasPrincipalPart n s c p f
-      → ((l : Lead) → Contains (row p).leads l → HasInvertibleDivisors s (letters_of n s p f) l) → GradeIsKilled n s c k grade p f
+  GradesAreKilled = (n c k grade : ℕ) (p : Part) → c ≤ n → length (row p).weights ≡ c → 2 ≤ k → (row p).degree < grade → (f : Polynomial n V)
+      → IsSplitUpTo n s c k f → HasPrincipalPart n s c p f
+      → LeadsAreInvertible s (letters_of n s p f) p → GradeIsKilled n s c k grade p f
