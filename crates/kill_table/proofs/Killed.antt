@@ -90,7 +90,7 @@ module _ {E V : Type 0} (m : Meaning E V) (l : ScalarLaws m.scalars) (n : ℕ) w
       let inside : All (λ t. IsIn n t.0.e) f.terms = subst (λ m. All (λ t. IsIn m t.0.e) f.terms) en j.variables in
       let low : All (λ t. sum t.0.e ≤ k) f.terms = subst (λ m. All (λ t. sum t.0.e ≤ m) f.terms) ek j.degrees in
       record {
-        valid = j;
+        jet = j;
         variables = en;
         order = ek;
         polynomial = Canonical.one_jet n m.scalars l k (poly_of n m.value f.terms) p (rising_in f.terms inside rising) (no_zero_in f.terms j.units) (low_in k f.terms inside low)
@@ -420,7 +420,7 @@ module _ {E V : Type 0} (m : Meaning E V) (l : ScalarLaws m.scalars) (letters : 
     count = lengths m n 16 (map (put_by m letters n steps) (numbers_below n)) parts are ∙ long
 
     pub are-parts : All (IsPart m n) parts
-    are-parts = each m n 16 (IsPart m n) (λ p f h. record { jet = h.valid; variables = h.variables }) (map (put_by m letters n steps) (numbers_below n)) parts are
+    are-parts = each m n 16 (IsPart m n) (λ p f h. record { jet = h.jet; variables = h.variables }) (map (put_by m letters n steps) (numbers_below n)) parts are
 
     pub orders : All (λ p. p.order ≡ 16) parts
     orders = each m n 16 (λ p. p.order ≡ 16) (λ p f h. h.order) (map (put_by m letters n steps) (numbers_below n)) parts are

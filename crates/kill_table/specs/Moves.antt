@@ -1,35 +1,27 @@
 -- Kill moves as changes of coordinates of the program, and when one forms a number of height at least 2^120.
-use Rattle.std.specs.Prelude.{◌≡◌, ℕ, ◌⊎◌, ⊤, List, map}
+use Rattle.std.specs.Prelude.{ℕ, ◌⊎◌, ⊤, List, map}
 use Rattle.ring_theory.specs.Scalars.{Scalars, Meaning}
 use Rattle.poly_law.specs.Polynomials.{Polynomial}
 use Rattle.jet_law.specs.Canonical.{jet}
 use Rattle.ring_law.specs.declared.fraction.Fault.{Fault}
 use Rattle.ring_law.specs.declared.fraction.Fault.TheVariants as fault
-use Rattle.jet_law.specs.Terms.{poly_of}
 use Rattle.jet_poly.specs.JetTerms.{JetTerms}
-use Rattle.jet_poly.specs.Jets.{IsJet}
 use Rattle.coord_change.specs.declared.change.Change.{Change}
 use Rattle.coord_change.specs.declared.error.ChangeError.{ChangeError}
 use Rattle.coord_change.specs.declared.error.ChangeError.TheVariants as error
-use Rattle.coord_change.specs.Changes.{IsChange}
 use Rattle.coord_change.specs.Inverses.{InverseIsHigh}
-use Rattle.coord_change.specs.Moves.{Move, move_from, linear_part}
+use Rattle.coord_change.specs.MoveJets.{IsJetFor, IsMoveExactly}
+use Rattle.coord_change.specs.Moves.{Move, linear_part}
 use Rattle.kill_law.specs.declared.part.Part.{Part}
 use Rattle.kill_law.specs.Taken.{kill_move, IsKillHigh}
 
--- the change is one in n variables of order k, with the inverse of its linear part, and its parts are the jets of order k of the polynomials of the move
-pub record IsMoveTo {E V : Type 0} (m : Meaning E V) (n k : ℕ) (move : Move n V) (c : Change E) : Type 0 where
-  pub change : IsChange m c
-  pub variables : c.n ≡ n
-  pub order : c.order ≡ k
-  pub parts : move_from m n c ≡ map (jet n m.scalars k) move
+-- the parts of the change are the jets of order k of the polynomials of the move
+abbrev pub IsMoveTo : {E V : Type 0} → Meaning E V → (n k : ℕ) → Move n V → Change E → Type 0
+IsMoveTo m n k move c = IsMoveExactly m n k (map (jet n m.scalars k) move) c
 
--- f is a jet of order k in n variables, and its polynomial is the jet of order k of p
-pub record IsPutFor {E V : Type 0} (m : Meaning E V) (n k : ℕ) (p : Polynomial n V) (f : JetTerms E) : Type 0 where
-  pub valid : IsJet m f
-  pub variables : f.n ≡ n
-  pub order : f.order ≡ k
-  pub polynomial : poly_of n m.value f.terms ≡ jet n m.scalars k p
+-- f is the jet of order k of p
+abbrev pub IsPutFor : {E V : Type 0} → Meaning E V → (n k : ℕ) → Polynomial n V → JetTerms E → Type 0
+IsPutFor m n k p f = IsJetFor m n k (jet n m.scalars k p) f
 
 module _ {V : Type 0} (s : Scalars V) (letters : List V) (p : Part) where
   -- the kill move of a grade for the terms of f, or the plain row reduction of its linear part, which gives the inverse, forms a number of height at least 2^120
