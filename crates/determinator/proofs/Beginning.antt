@@ -10,7 +10,7 @@ use Rattle.ring_law.specs.declared.fraction.Frac.{Frac}
 use Rattle.ring_law.specs.Fraction.{rational_meaning}
 use Rattle.ext_algebra.specs.declared.algebra.Algebra.TheVariants as algebras
 use Rattle.ext_algebra.specs.declared.algebra.Ext.{Ext}
-use Rattle.ext_algebra.specs.Algebra.{scalars, ops}
+use Rattle.ext_algebra.specs.Algebra.{scalars}
 use Rattle.poly_law.specs.Exps.{degree, variable, plus, lower}
 use Rattle.poly_law.specs.ExpList.{ExpList, exps}
 use Rattle.poly_law.specs.Poly.{square}
@@ -50,7 +50,6 @@ use Rattle.split_lemma.specs.SplitForms.{IsSplitUpTo, HasSquares}
 use Rattle.determinator.specs.Starts.{IsGermJet, IsJetOfGerm, IsFirstChain, IsBegun}
 use Rattle.determinator.specs.declared.start.Begun.TheVariants as begun
 use Rattle.determinator.specs.Turns.{IsStep, ended, in_search}
-use Rattle.determinator.specs.declared.step.Step.{Step}
 use Rattle.determinator.specs.declared.step.Step.TheVariants as steps
 use Rattle.determinator.proofs.Starting.{scalars_same, first_jet_is, low_part, high_hessian}
 

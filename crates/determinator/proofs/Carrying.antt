@@ -1,6 +1,6 @@
 -- What a report carries of a chain is true of the germ, and well formed.
 use mathlib.Core.Path.{fun_ext}
-use Rattle.std.proofs.Common.{◌≡◌, ℕ, ◌*◌, ◌+◌, ◌<◌, ◌≤◌, IsTrue, List, [], ◌∷◌, map, length, get_or, refl, sym, ap, subst, ◌∙◌, arith}
+use Rattle.std.proofs.Common.{◌≡◌, ℕ, ◌*◌, ◌+◌, ◌<◌, ◌≤◌, IsTrue, List, map, length, get_or, refl, sym, ap, subst, ◌∙◌, arith}
 use Rattle.std.specs.List.{All, list_all}
 use Rattle.std.proofs.lemmas.List.Elements.{recursion_from_All}
 use Rattle.ring_theory.specs.Rational.{Rational}
@@ -30,7 +30,6 @@ use Rattle.report_law.specs.Polynomials.{terms_in, jet_at, value_at, lifted}
 use Rattle.report_jet.proofs.ReportJets.{terms_in-poly_of}
 use Rattle.coord_change.specs.Chains.{ChainParts, carried_in}
 use Rattle.coord_change.specs.MoveJets.{IsJetFor, IsMoveExactly}
-use Rattle.plan_law.specs.Outcomes.{Carried}
 use Rattle.plan_law.specs.Run.{brought, carried_by}
 use Rattle.planned_law.specs.Planned.{carried_in as planned_in}
 use Rattle.determinator.specs.Carried.{with_parts, IsCarriedFrom}

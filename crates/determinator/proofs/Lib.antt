@@ -13,12 +13,12 @@ mod Planning
 mod Composites
 mod ReportParts
 mod Listing
-mod Certificates
 mod Carrying
 mod GermReports
-mod Reading
-mod NameReports
 mod Reporting
+mod Powers
+mod Namings
+mod Finishing
 mod TestLemmas
 mod LiftLemmas
 mod LineAnswers

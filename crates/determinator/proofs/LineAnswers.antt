@@ -1,5 +1,5 @@
 -- What is answered for a line is right, and planned.
-use Rattle.std.proofs.Common.{◌≡◌, ◌≢◌, ℕ, zero, ◌+◌, ◌<◌, ◌≤◌, ◌⊎◌, inl, inr, Bool, true, false, cond, min, nat_le, List, [], ◌∷◌, map, sum, length, length-append, ◌++◌, refl, sym, ap, subst, ◌∙◌, true≢false, arith, ltb-true, lt-ltb}
+use Rattle.std.proofs.Common.{◌≡◌, ℕ, ◌<◌, ◌≤◌, ◌⊎◌, inl, inr, Bool, true, false, cond, min, nat_le, List, [], ◌∷◌, map, sum, length, length-append, ◌++◌, refl, sym, ap, subst, ◌∙◌, true≢false, arith, ltb-true, lt-ltb}
 use Rattle.std.specs.Prelude.{nat_lt}
 use Rattle.std.specs.List.{All, AllByRecursion, list_all}
 use Rattle.std.proofs.lemmas.List.{length-map}
@@ -22,7 +22,6 @@ use Rattle.jet_law.specs.Canonical.{jet}
 use Rattle.jet_law.specs.Terms.{poly_of}
 use Rattle.jet_law.proofs.TermLemmas.{degree-exp_of}
 use Rattle.jet_poly.specs.JetTerms.{JetTerms}
-use Rattle.jet_poly.specs.Jets.{polynomial_of}
 use Rattle.germ_law.specs.Germ as germs
 use Rattle.germ_law.specs.Germ.{RationalPolynomial, germ_of, without_constant, IsCritical}
 use Rattle.germ_law.specs.Reading.{IsReadingHigh}

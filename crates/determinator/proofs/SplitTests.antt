@@ -24,7 +24,7 @@ use Rattle.poly_law.proofs.OneList.{one_list}
 use Rattle.mono_exp.specs.declared.exponent.Exp.{Exp}
 use Rattle.mono_exp.specs.Exponents.{IsIn, numbers_below}
 use Rattle.mono_exp.proofs.Lists.{Each, numbers_are_below, length-numbers_below}
-use Rattle.jet_law.specs.Canonical.{jet, monomial_in}
+use Rattle.jet_law.specs.Canonical.{monomial_in}
 use Rattle.jet_law.specs.Terms.{exp_of, poly_of}
 use Rattle.jet_law.proofs.TermLemmas.{at-exp_of, degree-exp_of}
 use Rattle.jet_poly.specs.JetTerms.{JetTerms, IsRising}

@@ -1,5 +1,5 @@
 -- The beginning of the run.
-use Rattle.std.proofs.Common.{◌≡◌, ℕ, ◌<◌, ◌≤◌, inl, [], ◌∷◌, ◌++◌, refl, sym, ◌∙◌, ap, ap₂, subst, arith}
+use Rattle.std.proofs.Common.{◌≡◌, ℕ, ◌≤◌, inl, [], ◌∷◌, ◌++◌, refl, sym, ◌∙◌, ap, ap₂, subst, arith}
 use Rattle.ring_theory.specs.Rational.{Rational}
 use Rattle.ring_theory.specs.Scalars.{Scalars}
 use Rattle.ring_theory.specs.Height.{rational_scalars}

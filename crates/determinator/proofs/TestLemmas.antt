@@ -1,5 +1,5 @@
 -- What the answer of Mather's test says of the condition, and what the test needs.
-use Rattle.std.proofs.Common.{◌≡◌, ◌≢◌, ℕ, ◌+◌, ◌<◌, ◌≤◌, List, [], ◌∷◌, map, refl, sym, subst, ◌∙◌, arith}
+use Rattle.std.proofs.Common.{◌≡◌, ℕ, ◌+◌, ◌≤◌, List, [], ◌∷◌, map, refl, sym, subst, ◌∙◌, arith}
 use Rattle.std.specs.List.{AllByRecursion}
 use Rattle.ring_theory.specs.Rational.{Rational}
 use Rattle.ring_theory.specs.Scalars.{ScalarLaws, Meaning}

@@ -19,7 +19,7 @@ use Rattle.normal_forms.specs.declared.pattern.Pattern.TheVariants as patterns
 use Rattle.move_law.specs.Moves.{residual}
 use Rattle.plan_law.specs.Outcomes as outcomes
 use Rattle.plan_law.specs.Pieces.{HasHigh}
-use Rattle.plan_law.specs.Run.{brought, carried_by, composing_pieces, searching, split_at, split_pieces}
+use Rattle.plan_law.specs.Run.{brought, carried_by, composing_pieces, finished, finishing_pieces, searching, split_at, split_pieces}
 use Rattle.determinator.specs.Carried.{IsCarriedFrom, IsWithoutResidual}
 use Rattle.determinator.specs.Places.{IsPlace}
 use Rattle.determinator.specs.Reports.{AreNames, IsReport}
@@ -63,6 +63,16 @@ module _ (c : ℕ) (chain : ChainParts (Ext Frac)) where
   IsOutside names r = (n last : ℕ) (germ : Polynomial n Rational) (moves : List (Move n Rational)) → AreNames n names → IsPlace n c last germ algebras.Rational 2 moves chain
       → IsWithoutResidual n c (brought n c germ algebras.Rational 2 moves)
       → IsReport names n last germ r (outcomes.outside patterns.O (carried_by n c germ algebras.Rational 2 moves (brought n c germ algebras.Rational 2 moves)))
+
+  -- the answer reports the outcome of the plan's finish before a part is known, and is true of the germ
+  abbrev pub IsFinishedSearch : List Name → Answer → Type 0
+  IsFinishedSearch names r = (n last o : ℕ) (germ : Polynomial n Rational) (moves : List (Move n Rational)) → AreNames n names → IsPlace n c last germ algebras.Rational o moves chain
+      → IsReport names n last germ r (finished n c germ o (searching moves) (brought n c germ algebras.Rational o moves))
+
+  -- something that this finish forms is high in this phase
+  abbrev pub IsFinishingSearchHigh : Phase → Type 0
+  IsFinishingSearchHigh p = (n last o : ℕ) (germ : Polynomial n Rational) (moves : List (Move n Rational)) → IsPlace n c last germ algebras.Rational o moves chain
+      → HasHigh p (finishing_pieces n c germ o (searching moves) (brought n c germ algebras.Rational o moves))
 
   -- the next order begins by this step
   abbrev pub IsOpenedNext : Step → Type 0

@@ -1,5 +1,5 @@
 -- How far the run of the plan has come, as the code has it.
-use Rattle.std.specs.Prelude.{◌≡◌, ℕ, suc, ◌<◌, ◌≤◌, List}
+use Rattle.std.specs.Prelude.{ℕ, suc, ◌<◌, ◌≤◌, List}
 use Rattle.ring_theory.specs.Rational.{Rational}
 use Rattle.ext_algebra.specs.declared.algebra.Algebra.TheVariants as algebras
 use Rattle.ext_algebra.specs.declared.algebra.Ext.{Ext}

@@ -9,7 +9,7 @@ ghost use Rattle.determinator.specs.Jets.{IsListed, IsFailureFor};
 ghost use Rattle.determinator.specs.Places.{IsPlaced};
 ghost use Rattle.determinator.specs.Steps.{IsComposingHigh, IsCarried, IsLimit, IsOutside};
 
-use crate::jet::{see_places, see_terms};
+use crate::jet::see_terms;
 use cert_text::{Answer, Carried, Limit, Outside};
 use coord_change::{Chain, composite};
 use ext_algebra::{Algebra, AlgebraField, Ext};
@@ -92,7 +92,6 @@ pub fn limited(
     ensures report { IfOk result (IsLimit corank algebra chain.now names.now) }
     ensures range { OnFault result (IsComposingHigh corank algebra chain.now) }
 {
-    see_places(functional.as_slice());
     let carried = carried_of(alloc, names, algebra, corank, chain)?;
     Ok(Answer::Limit(Limit {
         carried,

@@ -59,8 +59,8 @@ fn see_exponents(m: Exp)
     let _ = m;
 }
 
-/// All monomials have eight exponents, as is seen when they are read.
-pub fn see_places<E: Copy>(terms: &[(Exp, E)])
+// All monomials have eight exponents, as is seen when they are read.
+fn see_places<E: Copy>(terms: &[(Exp, E)])
     ensures { All (λ t. length t.0.e ≡ 8) terms.now }
 {
     for t in terms {

@@ -2,9 +2,11 @@
 #![tactic(auto)]
 
 mod ending;
+mod finish;
 mod jet;
 mod lifting;
 mod naming;
+mod power;
 mod splitting;
 mod start;
 mod step;
@@ -13,9 +15,11 @@ mod testing;
 mod turn;
 
 pub use ending::{carried_of, limited, outside};
+pub use finish::finish_searching;
 pub use jet::{residual_part, squares_of};
 pub use lifting::lift_jet;
-pub use naming::Naming;
+pub use naming::{Naming, family_found, naming_of};
+pub use power::least_power;
 pub use splitting::split_next;
 pub use start::{Begun, First};
 pub use step::Step;

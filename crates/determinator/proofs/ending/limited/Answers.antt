@@ -1,5 +1,4 @@
-use Rattle.std.proofs.Common.{◌≡◌, length, refl, subst}
-use Rattle.std.specs.List.{All}
+use Rattle.std.proofs.Common.{refl}
 use Rattle.ring_law.proofs.Exits.{fault_handed_on}
 use Rattle.determinator.proofs.Reporting.{limit_report}
 use Rattle.determinator.proofs.ending.limited.Goals as goal
@@ -10,4 +9,4 @@ returns-in_err-carried-clause-range c = fault_handed_on _ c.from_residual.ensure
 pub returns-clause-report : goal.returns-clause-report
 returns-clause-report c n o germ moves are three place =
     limit_report c.args.names.now n are c.args.corank o germ c.args.algebra c.requires.field o moves c.args.chain.now place c.in_ok-carried.carried (c.in_ok-carried.ensures.carried n o o germ moves place)
-    refl three c.requires.few c.args.functional c.args.at c.requires.failure (subst (All (λ t. length t.0.e ≡ 8)) c.as_slice.ensures c.see_places.ensures)
+    refl three c.requires.few c.args.functional c.args.at c.requires.failure

@@ -1,4 +1,4 @@
-use Rattle.std.proofs.Common.{◌≡◌, refl, sym, ap, subst, ◌∙◌}
+use Rattle.std.proofs.Common.{refl, sym, ap, subst, ◌∙◌}
 use Rattle.jet_poly.specs.JetTerms.{IsRising}
 use Rattle.jet_poly.proofs.KeptTerms.{kept-rising}
 use Rattle.normal_forms.specs.Monomials.{is_residual, residual_terms}

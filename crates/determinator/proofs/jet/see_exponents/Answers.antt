@@ -1,4 +1,4 @@
-use Rattle.std.proofs.Common.{◌≡◌, rules}
+use Rattle.std.proofs.Common.{rules}
 use Rattle.determinator.proofs.jet.see_exponents.Goals as goal
 
 pub returns : goal.returns

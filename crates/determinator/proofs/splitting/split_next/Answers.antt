@@ -1,4 +1,4 @@
-use Rattle.std.proofs.Common.{◌≡◌, ◌≢◌, suc, ◌-◌, ◌<◌, ◌≤◌, List, [], ◌∷◌, map, length, All, sym, subst, ◌∙◌, ap, arith}
+use Rattle.std.proofs.Common.{◌≢◌, suc, ◌≤◌, List, map, length, All, sym, subst, ◌∙◌, ap, arith}
 use Rattle.std.specs.List.{AllByRecursion}
 use Rattle.std.proofs.lemmas.List.{length-map}
 use Rattle.std.proofs.lemmas.List.Elements.{All-from_recursion}
