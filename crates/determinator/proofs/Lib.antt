@@ -12,7 +12,6 @@ mod Running
 mod Planning
 mod Composites
 mod ReportParts
-mod Listing
 mod Carrying
 mod GermReports
 mod Reporting
