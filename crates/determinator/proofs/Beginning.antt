@@ -191,7 +191,7 @@ module _ (names : List Name) (n last : ℕ) (g : Polynomial n Rational) where
 few : (k : ℕ) → k < 2 → nat_le 4 k ≡ false
 few k h = grind arith
 
-many : (k : ℕ) → 4 ≤ k → nat_le 4 k ≡ true
+pub many : (k : ℕ) → 4 ≤ k → nat_le 4 k ≡ true
 many k h = grind arith
 
 built_few : (k : ℕ) → k < 2 → is_unbuilt k ≡ false
@@ -202,18 +202,9 @@ built_few (suc (suc k)) h = absurd (omega arith)
 built_many : (k : ℕ) → 4 ≤ k → is_unbuilt k ≡ false
 built_many k h = ap₂ (λ a b. a || b) (ne_eqb k 2 (λ e. omega arith)) (ne_eqb k 3 (λ e. omega arith))
 
-unbuilt_is : (k : ℕ) → (eqb k 2 || eqb k 3) ≡ true → is_unbuilt k ≡ true
-unbuilt_is k h = h
-
-or_second : (x y : Bool) → y ≡ true → (x || y) ≡ true
-or_second true y e = refl
-or_second false y e = e
-
-pub at_least_4 : (k : ℕ) → (eqb k 2 || eqb k 3) ≡ false → (k < 2 → ⊥) → 4 ≤ k
-at_least_4 k h more =
-    let not_2 : k ≡ 2 → ⊥ = λ e. true≢false (sym (ap (λ b. b || eqb k 3) (eq-eqb k 2 e)) ∙ h) in
-    let not_3 : k ≡ 3 → ⊥ = λ e. true≢false (sym (or_second (eqb k 2) (eqb k 3) (eq-eqb k 3 e)) ∙ h) in
-    omega arith
+unbuilt_is : (k : ℕ) → (k ≡ 2) ⊎ (k ≡ 3) → is_unbuilt k ≡ true
+unbuilt_is k (inl e) = ap is_unbuilt e
+unbuilt_is k (inr e) = ap is_unbuilt e
 
 module _ (f : JetTerms Frac) (h : IsGermJet f) (g : Polynomial f.n Rational) (j : IsJetOfGerm f g) where
   pub corank_is : (c : ℕ) → c ≡ corank f.n rational_scalars (jet f.n rational_scalars 2 (polynomial_of rational_meaning f)) → c ≡ corank_of_germ f.n g
@@ -236,5 +227,5 @@ module _ (f : JetTerms Frac) (h : IsGermJet f) (g : Polynomial f.n Rational) (j 
       → IsBegun names f g (begun.First (record { corank = c; step = steps.Ends answer }))
   begin_outside names c e le answer r = (subst (λ z. is_unbuilt z ≡ false) e (built_many c le), e, starts_outside names f.n f.order g c answer e (many c le) r)
 
-  pub begin_unbuilt : (names : List Name) (c : ℕ) → c ≡ corank_of_germ f.n g → (eqb c 2 || eqb c 3) ≡ true → IsBegun names f g begun.Unbuilt
+  pub begin_unbuilt : (names : List Name) (c : ℕ) → c ≡ corank_of_germ f.n g → (c ≡ 2) ⊎ (c ≡ 3) → IsBegun names f g begun.Unbuilt
   begin_unbuilt names c e b = subst (λ z. is_unbuilt z ≡ true) e (unbuilt_is c b)

@@ -24,7 +24,9 @@ use Rattle.mono_exp.proofs.ListLemmas.{all-push}
 use Rattle.report_jet.specs.Lifted.{lifted_element}
 use Rattle.report_jet.proofs.LiftedJets.{lifted_elem}
 use Rattle.coord_change.specs.MoveJets.{IsJetFor, IsMoveExactly}
+use Rattle.determinator.specs.Lifted.{AreLiftedParts, AreLiftedEntries}
 use Rattle.determinator.proofs.Chained
+use Rattle.determinator.proofs.ReportParts.{get_same}
 
 -- over the rational numbers themselves a polynomial stays
 lifted_same : (n : ℕ) (f : Polynomial n Rational) → lifted n algebras.Rational f ≡ f
@@ -48,24 +50,13 @@ value_is q = refl
 
 -- ---- what is made so far
 
--- the first parts
-pub record ArePartsSoFar (c : Change Frac) (given : List (JetTerms Frac)) (made : List (JetTerms (Ext Frac))) : Type 0 where
-  pub jets : All (IsPart (algebra_meaning algebras.Rational) c.n) made
-  pub orders : All (λ p. p.order ≡ c.order) made
-  pub polynomials : map (λ h. poly_of c.n (value_in algebras.Rational) h.terms) made ≡ map (λ p. poly_of c.n frac_value p.terms) given
-
--- the first entries of the matrix
-pub record AreEntriesSoFar (given : List Frac) (made : List (Ext Frac)) : Type 0 where
-  pub elems : All (IsElement algebras.Rational) made
-  pub values : map (value_in algebras.Rational) made ≡ map frac_value given
-
 none_all : {X : Type 0} (P : X → Type 0) → All P []
 none_all P i x h = absurd (omega arith)
 
-pub no_parts : (c : Change Frac) → ArePartsSoFar c [] []
+pub no_parts : (c : Change Frac) → AreLiftedParts c [] []
 no_parts c = record { jets = none_all (IsPart (algebra_meaning algebras.Rational) c.n); orders = none_all (λ (p : JetTerms (Ext Frac)). p.order ≡ c.order); polynomials = refl }
 
-pub no_entries : AreEntriesSoFar [] []
+pub no_entries : AreLiftedEntries [] []
 no_entries = record { elems = none_all (IsElement algebras.Rational); values = refl }
 
 all_append : {X : Type 0} (P : X → Type 0) (xs : List X) (x : X) → All P xs → P x → All P (xs ++ x ∷ [])
@@ -73,7 +64,7 @@ all_append P xs x a p = all-push P xs x a p
 
 -- one part more
 pub part_more : (c : Change Frac) → IsChange rational_meaning c → (i : ℕ) (p : JetTerms Frac) (made : List (JetTerms (Ext Frac))) (g : JetTerms (Ext Frac)) → i < length c.parts → p ≡ get_or c.parts i p
-    → ((n k : ℕ) (q : Polynomial n Rational) → IsJetFor rational_meaning n k q p → IsJetFor (algebra_meaning algebras.Rational) n k q g) → ArePartsSoFar c (take i c.parts) made → ArePartsSoFar c (take (i + 1) c.parts) (made ++ g ∷ [])
+    → ((n k : ℕ) (q : Polynomial n Rational) → IsJetFor rational_meaning n k q p → IsJetFor (algebra_meaning algebras.Rational) n k q g) → AreLiftedParts c (take i c.parts) made → AreLiftedParts c (take (i + 1) c.parts) (made ++ g ∷ [])
 part_more c h i p made g within read lifts so_far =
     let part : IsPart rational_meaning c.n p = subst (IsPart rational_meaning c.n) (sym read) (h.parts i p within) in
     let order : p.order ≡ c.order = subst (λ (q : JetTerms Frac). q.order ≡ c.order) (sym read) (h.orders i p within) in
@@ -87,8 +78,8 @@ part_more c h i p made g within read lifts so_far =
     }
 
 -- one entry more
-pub entry_more : (given : List Frac) → All (rational_meaning).is_elem given → (i : ℕ) (q : Frac) (made : List (Ext Frac)) → i < length given → q ≡ get_or given i q → AreEntriesSoFar (take i given) made
-    → AreEntriesSoFar (take (i + 1) given) (made ++ lifted_element q ∷ [])
+pub entry_more : (given : List Frac) → All (rational_meaning).is_elem given → (i : ℕ) (q : Frac) (made : List (Ext Frac)) → i < length given → q ≡ get_or given i q → AreLiftedEntries (take i given) made
+    → AreLiftedEntries (take (i + 1) given) (made ++ lifted_element q ∷ [])
 entry_more given valid i q made within read so_far = record {
   elems = all_append (IsElement algebras.Rational) made (lifted_element q) so_far.elems (lifted_elem algebras.Rational q (subst (rational_meaning).is_elem (sym read) (valid i q within)));
   values = map-append (value_in algebras.Rational) made (lifted_element q ∷ [])
@@ -96,12 +87,17 @@ entry_more given valid i q made within read so_far = record {
       ∙ sym (ap (map frac_value) (take_more given i q within ∙ ap (λ u. take i given ++ u ∷ []) (sym read)) ∙ map-append frac_value (take i given) (q ∷ []));
 }
 
+-- the same, as the loop reads it
+pub entry_at : (given : List Frac) → All (rational_meaning).is_elem given → (i : ℕ) (d : Frac) (made : List (Ext Frac)) → i < length given → AreLiftedEntries (take i given) made
+    → AreLiftedEntries (take (i + 1) given) (made ++ lifted_element (get_or given i d) ∷ [])
+entry_at given valid i d made within so_far = entry_more given valid i (get_or given i d) made within (get_same given i d (get_or given i d) within) so_far
+
 -- ---- the whole change
 
 mapped_at : {X Y Z : Type 0} (f : X → Z) (g : Y → Z) (xs : List X) (ys : List Y) → map f xs ≡ map g ys → length xs ≡ length ys
 mapped_at f g xs ys e = sym (length-map xs f) ∙ ap (λ (l : List _). length l) e ∙ length-map ys g
 
-pub lifted_change : (c : Change Frac) → IsChange rational_meaning c → (parts : List (JetTerms (Ext Frac))) (inverse : List (Ext Frac)) → ArePartsSoFar c c.parts parts → AreEntriesSoFar c.inverse inverse
+pub lifted_change : (c : Change Frac) → IsChange rational_meaning c → (parts : List (JetTerms (Ext Frac))) (inverse : List (Ext Frac)) → AreLiftedParts c c.parts parts → AreLiftedEntries c.inverse inverse
     → IsChange (algebra_meaning algebras.Rational) (record { n = c.n; order = c.order; parts = parts; inverse = inverse })
 unfolding scalars
 lifted_change c h parts inverse made entries = record {
@@ -125,7 +121,7 @@ lifted_change c h parts inverse made entries = record {
     entries_are : entry_of rational_meaning c.n c.inverse ≡ entry_of (algebra_meaning algebras.Rational) c.n inverse
     entries_are = fun_ext λ i. fun_ext λ k. ap (λ (l : List Rational). get_or l (c.n * i + k) rational_meaning.scalars.ops.zero) (sym entries.values)
 
-pub lifted_move : (c : Change Frac) (parts : List (JetTerms (Ext Frac))) (inverse : List (Ext Frac)) → ArePartsSoFar c c.parts parts → AreEntriesSoFar c.inverse inverse
+pub lifted_move : (c : Change Frac) (parts : List (JetTerms (Ext Frac))) (inverse : List (Ext Frac)) → AreLiftedParts c c.parts parts → AreLiftedEntries c.inverse inverse
     → (n k : ℕ) (move : Move n Rational) → IsMoveExactly rational_meaning n k move c → IsMoveExactly (algebra_meaning algebras.Rational) n k move (record { n = c.n; order = c.order; parts = parts; inverse = inverse })
 lifted_move c parts inverse made entries n k move h = record {
   change = lifted_change c h.change parts inverse made entries;

@@ -12,6 +12,7 @@ use Rattle.plan_law.specs.Run.{Runs, IsHighFrom}
 use Rattle.planned_law.specs.Planned.{is_unbuilt}
 use Rattle.determinator.specs.Answered.{IsPlannedAnswer, IsRangeOf, by_outcome, in_range}
 use Rattle.determinator.specs.Places.{StopBy}
+use Rattle.determinator.specs.Reports.{AreNames}
 use Rattle.determinator.specs.Starts.{IsJetOfGerm}
 use Rattle.determinator.specs.Turns.{IsOver, IsHigh, IsStep, IsAhead, IsRunning}
 use Rattle.determinator.specs.declared.stop.Stop.{Stop}
@@ -29,8 +30,8 @@ module _ (names : List Name) (n last : ℕ) (g : Polynomial n Rational) (c : ℕ
   pub ahead_of : (step : Step) → IsStep names n (corank_of_germ n g) last g 2 (started n g) step → IsAhead names n c last g (started n g) 2 step
   ahead_of step h = subst (λ z. IsAhead names n z last g (started n g) 2 step) (sym e) (first_ahead n (corank_of_germ n g) last g names (started n g) step h)
 
-  pub running_of : (step : Step) → IsStep names n (corank_of_germ n g) last g 2 (started n g) step → IsRunning names c last 2 step
-  running_of step h = record { n = n; germ = g; start = started n g; ahead = ahead_of step h }
+  pub running_of : AreNames n names → (step : Step) → IsStep names n (corank_of_germ n g) last g 2 (started n g) step → IsRunning names c last 2 step
+  running_of are step h = record { n = n; names_are = are; germ = g; start = started n g; ahead = ahead_of step h }
 
 -- the answer to a stop
 pub planned_stop : (names : List Name) (f : JetTerms Frac) {E : Type 0} (r : Result Answer E) (s : Stop) → IfOk r (IsRangeOf s)

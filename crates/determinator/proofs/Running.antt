@@ -1,5 +1,5 @@
 -- What the state of the code says of the run.
-use Rattle.std.proofs.Common.{◌≡◌, ℕ, suc, ◌≤◌, List, arith}
+use Rattle.std.proofs.Common.{◌≡◌, ℕ, suc, ◌≤◌, List, arith, sym, subst}
 use Rattle.ring_theory.specs.Rational.{Rational}
 use Rattle.ext_algebra.specs.declared.algebra.Algebra.TheVariants as algebras
 use Rattle.ext_algebra.specs.declared.algebra.Ext.{Ext}
@@ -70,3 +70,8 @@ searching_few names c last o chain r = (searching_of names r.n c last r.germ r.s
 
 pub searching_last : (names : List Name) (c last o : ℕ) (chain : ChainParts (Ext Frac)) → IsRunning names c last o (steps.Searching chain) → chain.germ.order ≡ last
 searching_last names c last o chain r = let s = searching_of names r.n c last r.germ r.start o chain r.ahead in s.place.chain_is.germ_is.order
+
+pub searching_named : (names : List Name) (c last o : ℕ) (chain : ChainParts (Ext Frac)) → IsRunning names c last o (steps.Searching chain) → AreNames chain.germ.n names
+searching_named names c last o chain r =
+    let s = searching_of names r.n c last r.germ r.start o chain r.ahead in
+    subst (λ z. AreNames z names) (sym s.place.chain_is.germ_is.variables) r.names_are

@@ -1,7 +1,9 @@
 -- What is answered for a critical germ.
 use Rattle.std.specs.Prelude.{◌≡◌, ℕ, true, false, List}
 use Rattle.ring_theory.specs.Rational.{Rational}
+use Rattle.ring_law.specs.declared.fraction.Frac.{Frac}
 use Rattle.poly_law.specs.Polynomials.{Polynomial}
+use Rattle.jet_poly.specs.JetTerms.{JetTerms}
 use Rattle.poly_text.specs.declared.name.Name.{Name}
 use Rattle.cert_text.specs.declared.report.Answer.{Answer}
 use Rattle.cert_text.specs.declared.report.Answer.TheVariants as answers
@@ -11,6 +13,7 @@ use Rattle.plan_law.specs.Plan.{corank_of_germ, HasOutcome, IsPhaseHigh}
 use Rattle.planned_law.specs.Planned.{is_unbuilt}
 use Rattle.determinator.specs.Places.{IsPastReading}
 use Rattle.determinator.specs.Reports.{IsReport}
+use Rattle.determinator.specs.Starts.{IsJetOfGerm}
 use Rattle.determinator.specs.declared.stop.Stop.{Stop}
 use Rattle.determinator.specs.declared.stop.Stop.TheVariants as stops
 
@@ -25,3 +28,7 @@ pub data IsPlannedAnswer (names : List Name) (n last : ℕ) (germ : Polynomial n
       → IsPlannedAnswer names n last germ answer
   in_range : {p : Phase} → IsPastReading p → IsPhaseHigh n germ last p → IsPlannedAnswer names n last germ (answers.Range p)
   by_corank : is_unbuilt (corank_of_germ n germ) ≡ true → IsPlannedAnswer names n last germ answers.Unbuilt
+
+-- what is answered for each germ that has the jet
+abbrev pub ArePlanned : List Name → (f : JetTerms Frac) → Answer → Type 0
+ArePlanned names f answer = (g : Polynomial f.n Rational) → IsJetOfGerm f g → IsPlannedAnswer names f.n f.order g answer

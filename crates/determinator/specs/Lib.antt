@@ -1,4 +1,5 @@
 pub mod Jets
+pub mod Lifted
 pub mod Reports
 pub mod Places
 pub mod Carried

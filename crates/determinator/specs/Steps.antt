@@ -19,11 +19,11 @@ use Rattle.normal_forms.specs.declared.pattern.Pattern.TheVariants as patterns
 use Rattle.move_law.specs.Moves.{residual}
 use Rattle.plan_law.specs.Outcomes as outcomes
 use Rattle.plan_law.specs.Pieces.{HasHigh}
-use Rattle.plan_law.specs.Run.{brought, carried_by, composing_pieces, finished, finishing_pieces, searching, split_at, split_pieces}
+use Rattle.plan_law.specs.Run.{IsHighFrom, brought, carried_by, composing_pieces, finished, finishing_pieces, searching, split_at, split_pieces, tests}
 use Rattle.determinator.specs.Carried.{IsCarriedFrom, IsWithoutResidual}
 use Rattle.determinator.specs.Places.{IsPlace}
 use Rattle.determinator.specs.Reports.{AreNames, IsReport}
-use Rattle.determinator.specs.Turns.{IsOpened, IsOpeningHigh}
+use Rattle.determinator.specs.Turns.{IsOpened, IsOpeningHigh, IsTurned}
 use Rattle.determinator.specs.declared.step.Step.{Step}
 
 module _ (c : ℕ) (a : Algebra) (chain : ChainParts (Ext Frac)) where
@@ -83,3 +83,13 @@ module _ (c : ℕ) (chain : ChainParts (Ext Frac)) where
   abbrev pub IsOpeningNextHigh : Phase → Type 0
   IsOpeningNextHigh p = (n last o : ℕ) (germ : Polynomial n Rational) (moves : List (Move n Rational)) → IsPlace n c last germ algebras.Rational o moves chain
       → IsOpeningHigh n c last germ p (suc o) (searching moves)
+
+  -- from the test of the order of the chain the run ends, or goes on with the next order, by this step
+  abbrev pub IsTurnedSearch : List Name → Step → Type 0
+  IsTurnedSearch names next = (n last o : ℕ) (germ : Polynomial n Rational) (moves : List (Move n Rational)) → AreNames n names → IsPlace n c last germ algebras.Rational o moves chain
+      → IsTurned names n c last germ o (searching moves) (brought n c germ algebras.Rational o moves) next
+
+  -- something on the way from that test is high in this phase
+  abbrev pub IsTurningSearchHigh : Phase → Type 0
+  IsTurningSearchHigh p = (n last o : ℕ) (germ : Polynomial n Rational) (moves : List (Move n Rational)) → IsPlace n c last germ algebras.Rational o moves chain
+      → IsHighFrom n c germ last p o (tests (searching moves) (brought n c germ algebras.Rational o moves))

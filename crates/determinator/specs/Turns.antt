@@ -16,7 +16,7 @@ use Rattle.plan_law.specs.Pieces.{Piece, HasHigh}
 use Rattle.plan_law.specs.Run as run
 use Rattle.plan_law.specs.Run.{Runs, IsHighFrom, IsDetermined, Opens, IsLinearHigh, opening_pieces, split_at, brought, ends, tests, searching}
 use Rattle.determinator.specs.Places.{IsPlace}
-use Rattle.determinator.specs.Reports.{IsReport}
+use Rattle.determinator.specs.Reports.{AreNames, IsReport}
 use Rattle.determinator.specs.declared.step.Step.{Step}
 use Rattle.determinator.specs.declared.step.Step.TheVariants as steps
 
@@ -71,9 +71,23 @@ module _ (names : List Name) (n c last : ℕ) (germ : Polynomial n Rational) (st
     at_searching : {moves : List (Move n Rational)} {chain : ChainParts (Ext Frac)} → c ≤ 1 → IsPlace n c last germ algebras.Rational o moves chain
         → IsReached n c last germ start o (searching moves) (brought n c germ algebras.Rational o moves) → IsAhead o (steps.Searching chain)
 
--- the run has come so far, for some germ
+-- the run has come so far, for some germ in the variables of the names
 pub record IsRunning (names : List Name) (c last o : ℕ) (step : Step) : Type 0 where
   pub n : ℕ
+  pub names_are : AreNames n names
   pub germ : Polynomial n Rational
   pub start : run.Step n
   pub ahead : IsAhead names n c last germ start o step
+
+module _ (names : List Name) (c last o : ℕ) (step : Step) where
+  -- whatever run has come to this step of order o, has come to the next one of order k
+  abbrev pub IsAheadBy : ℕ → Step → Type 0
+  IsAheadBy k next = (n : ℕ) (germ : Polynomial n Rational) (start : run.Step n) → AreNames n names → IsAhead names n c last germ start o step → IsAhead names n c last germ start k next
+
+  -- whatever run has come to this step of order o, ends with the answer
+  abbrev pub IsOverBy : Answer → Type 0
+  IsOverBy answer = (n : ℕ) (germ : Polynomial n Rational) (start : run.Step n) → AreNames n names → IsAhead names n c last germ start o step → IsOver names n c last germ start answer
+
+  -- something of whatever run has come to this step of order o is high in this phase
+  abbrev pub IsHighBy : Phase → Type 0
+  IsHighBy p = (n : ℕ) (germ : Polynomial n Rational) (start : run.Step n) → AreNames n names → IsAhead names n c last germ start o step → IsHigh n c last germ start p

@@ -1,12 +1,14 @@
-//! Steps of the run of the plan, and the answers in which it ends without a name.
+//! The run of the plan over germs carried by chains, and the report of a line.
 #![tactic(auto)]
 
 mod ending;
 mod finish;
 mod jet;
 mod lifting;
+mod line;
 mod naming;
 mod power;
+mod run;
 mod splitting;
 mod start;
 mod step;
@@ -17,12 +19,14 @@ mod turn;
 pub use ending::{carried_of, limited, outside};
 pub use finish::finish_searching;
 pub use jet::{residual_part, squares_of};
-pub use lifting::lift_jet;
+pub use lifting::{lift_change, lift_jet};
+pub use line::classify;
 pub use naming::{Naming, family_found, naming_of};
 pub use power::least_power;
+pub use run::answer_to_germ;
 pub use splitting::split_next;
-pub use start::{Begun, First};
+pub use start::{Begun, First, begin};
 pub use step::Step;
 pub use stop::{Stop, in_phase, range_answer};
 pub use testing::test;
-pub use turn::open_searching;
+pub use turn::{open_searching, turn_searching};
