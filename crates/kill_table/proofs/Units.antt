@@ -26,7 +26,7 @@ use Rattle.kill_table.proofs.Table.{passes, only-in}
 
 -- ---- the table
 
-number : ℤ → ℕ
+abbrev number : ℤ → ℕ
 number (pos k) = k
 number (negsuc k) = 0
 
@@ -101,7 +101,7 @@ module _ {V : Type 0} (s : Scalars V) (laws : ScalarLaws s) (inverts : HasInvers
         summand-nonzero p positive (λ i. free i none (either i)) (sym (laws.ring.add_zero _) ∙ e)
       where
         either : (i : ℕ) → (i < k) ⊎ (k ≤ i)
-        either i = omega arith
+        either i = grind arith
 
         free : (i : ℕ) → ((i : ℕ) → k ≤ i → get_or p.1 i 0 ≡ 0) → (i < k) ⊎ (k ≤ i) → (get_or p.1 i 0 ≡ 0) ⊎ (letter s letters i ≢ s.ops.zero)
         free i none (inl g) = inr (units i g)
@@ -168,35 +168,35 @@ module _ {V : Type 0} (s : Scalars V) (laws : ScalarLaws s) (inverts : HasInvers
 
   pub units_are_enough : UnitsAreEnough s
   unfolding row
-  units_are_enough parts.D4 a b c h = by_letters a b c parts.D4 2 refl h.letters
-  units_are_enough parts.D a b c h = by_letters a b c parts.D 1 refl h.letters
-  units_are_enough parts.J a b c h = by_letters a b c parts.J 1 refl h.letters
-  units_are_enough parts.X9 a b c h = by_letters a b c parts.X9 0 refl h.letters
-  units_are_enough parts.X a b c h = by_letters a b c parts.X 2 refl h.letters
-  units_are_enough parts.Y a b c h = by_letters a b c parts.Y 1 refl h.letters
-  units_are_enough parts.Z a b c h = by_letters a b c parts.Z 1 refl h.letters
-  units_are_enough parts.W a b c h = by_letters a b c parts.W 1 refl h.letters
-  units_are_enough parts.P8 a b c h = by_letters a b c parts.P8 0 refl h.letters
-  units_are_enough parts.Q a b c h = by_letters a b c parts.Q 2 refl h.letters
-  units_are_enough parts.S a b c h = by_letters a b c parts.S 2 refl h.letters
-  units_are_enough parts.U a b c h = by_letters a b c parts.U 2 refl h.letters
-  units_are_enough parts.T a b c h = by_letters a b c parts.T 1 refl h.letters
-  units_are_enough parts.E6 a b c h = by_letters a b c parts.E6 2 refl h.letters
-  units_are_enough parts.E7 a b c h = by_letters a b c parts.E7 2 refl h.letters
-  units_are_enough parts.E8 a b c h = by_letters a b c parts.E8 2 refl h.letters
-  units_are_enough parts.J10 a b c h = all-divide a b c regular_fits (regular-divides a b c h.letters (h.regular refl)) parts.J10 refl
-  units_are_enough parts.E12 a b c h = by_letters a b c parts.E12 2 refl h.letters
-  units_are_enough parts.E13 a b c h = by_letters a b c parts.E13 2 refl h.letters
-  units_are_enough parts.E14 a b c h = by_letters a b c parts.E14 2 refl h.letters
-  units_are_enough parts.Z11 a b c h = by_letters a b c parts.Z11 2 refl h.letters
-  units_are_enough parts.Z12 a b c h = by_letters a b c parts.Z12 2 refl h.letters
-  units_are_enough parts.Z13 a b c h = by_letters a b c parts.Z13 2 refl h.letters
-  units_are_enough parts.W12 a b c h = by_letters a b c parts.W12 2 refl h.letters
-  units_are_enough parts.W13 a b c h = by_letters a b c parts.W13 2 refl h.letters
-  units_are_enough parts.Q10 a b c h = by_letters a b c parts.Q10 3 refl h.letters
-  units_are_enough parts.Q11 a b c h = by_letters a b c parts.Q11 3 refl h.letters
-  units_are_enough parts.Q12 a b c h = by_letters a b c parts.Q12 3 refl h.letters
-  units_are_enough parts.S11 a b c h = by_letters a b c parts.S11 3 refl h.letters
-  units_are_enough parts.S12 a b c h = by_letters a b c parts.S12 3 refl h.letters
-  units_are_enough parts.U12 a b c h = by_letters a b c parts.U12 3 refl h.letters
-  units_are_enough parts.JT a b c h = by_letters a b c parts.JT 2 refl h.letters
+  units_are_enough parts.D4 a b c h = by_letters a b c parts.D4 2 refl h.nonzero
+  units_are_enough parts.D a b c h = by_letters a b c parts.D 1 refl h.nonzero
+  units_are_enough parts.J a b c h = by_letters a b c parts.J 1 refl h.nonzero
+  units_are_enough parts.X9 a b c h = by_letters a b c parts.X9 0 refl h.nonzero
+  units_are_enough parts.X a b c h = by_letters a b c parts.X 2 refl h.nonzero
+  units_are_enough parts.Y a b c h = by_letters a b c parts.Y 1 refl h.nonzero
+  units_are_enough parts.Z a b c h = by_letters a b c parts.Z 1 refl h.nonzero
+  units_are_enough parts.W a b c h = by_letters a b c parts.W 1 refl h.nonzero
+  units_are_enough parts.P8 a b c h = by_letters a b c parts.P8 0 refl h.nonzero
+  units_are_enough parts.Q a b c h = by_letters a b c parts.Q 2 refl h.nonzero
+  units_are_enough parts.S a b c h = by_letters a b c parts.S 2 refl h.nonzero
+  units_are_enough parts.U a b c h = by_letters a b c parts.U 2 refl h.nonzero
+  units_are_enough parts.T a b c h = by_letters a b c parts.T 1 refl h.nonzero
+  units_are_enough parts.E6 a b c h = by_letters a b c parts.E6 2 refl h.nonzero
+  units_are_enough parts.E7 a b c h = by_letters a b c parts.E7 2 refl h.nonzero
+  units_are_enough parts.E8 a b c h = by_letters a b c parts.E8 2 refl h.nonzero
+  units_are_enough parts.J10 a b c h = all-divide a b c regular_fits (regular-divides a b c h.nonzero (h.regular refl)) parts.J10 refl
+  units_are_enough parts.E12 a b c h = by_letters a b c parts.E12 2 refl h.nonzero
+  units_are_enough parts.E13 a b c h = by_letters a b c parts.E13 2 refl h.nonzero
+  units_are_enough parts.E14 a b c h = by_letters a b c parts.E14 2 refl h.nonzero
+  units_are_enough parts.Z11 a b c h = by_letters a b c parts.Z11 2 refl h.nonzero
+  units_are_enough parts.Z12 a b c h = by_letters a b c parts.Z12 2 refl h.nonzero
+  units_are_enough parts.Z13 a b c h = by_letters a b c parts.Z13 2 refl h.nonzero
+  units_are_enough parts.W12 a b c h = by_letters a b c parts.W12 2 refl h.nonzero
+  units_are_enough parts.W13 a b c h = by_letters a b c parts.W13 2 refl h.nonzero
+  units_are_enough parts.Q10 a b c h = by_letters a b c parts.Q10 3 refl h.nonzero
+  units_are_enough parts.Q11 a b c h = by_letters a b c parts.Q11 3 refl h.nonzero
+  units_are_enough parts.Q12 a b c h = by_letters a b c parts.Q12 3 refl h.nonzero
+  units_are_enough parts.S11 a b c h = by_letters a b c parts.S11 3 refl h.nonzero
+  units_are_enough parts.S12 a b c h = by_letters a b c parts.S12 3 refl h.nonzero
+  units_are_enough parts.U12 a b c h = by_letters a b c parts.U12 3 refl h.nonzero
+  units_are_enough parts.JT a b c h = by_letters a b c parts.JT 2 refl h.nonzero

@@ -32,7 +32,7 @@ module _ {V : Type 0} (s : Scalars V) (letters : List V) where
 
   -- the letters that the leads of a part are divided by are not zero, nor for J10 is the discriminant
   pub record HasUnits (p : Part) : Type 0 where
-    pub letters : (i : ℕ) → i < dividing_letters p → letter i ≢ s.ops.zero
+    pub nonzero : (i : ℕ) → i < dividing_letters p → letter i ≢ s.ops.zero
     pub regular : p ≡ parts.J10 → discriminant ≢ s.ops.zero
 
 -- so nothing that the leads of the part are divided by is zero

@@ -5,6 +5,7 @@ mod changes;
 mod forms;
 mod germs;
 mod jets;
+mod kills;
 mod monomials;
 mod numbers;
 mod reports;
