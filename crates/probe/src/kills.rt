@@ -1,8 +1,9 @@
 //! Kill moves of the principal parts.
 
 ghost use Rattle.std.specs.Prelude.{◌≡◌, ◌≢◌, ◌<◌, ◌≤◌, ℕ, true, All, IfOk, length, map, get_or};
+ghost use Rattle.kill_law.specs.declared.part.Part.TheVariants as parts;
 ghost use Rattle.kill_law.specs.Table.{row};
-ghost use Rattle.kill_table.specs.Divisors.{HasUnits, dividing_letters};
+ghost use Rattle.kill_table.specs.Divisors.{HasUnits, dividing_letters, discriminant};
 ghost use Rattle.probe.specs.Over.{IsOver};
 
 use crate::changes::put_change;
@@ -63,8 +64,10 @@ fn part_of(word: &[u8]) -> Result<Part, Stop> {
 }
 
 // How many of its letters, from the first on, the leads of a part are divided by.
+#[tactic(auto, unfolding(kill_law::specs::Table::row))]
 fn count_of(part: Part) -> usize
-    ensures { result ≡ dividing_letters part }
+    ensures count { result ≡ dividing_letters part }
+    ensures at_most_3 { result ≤ 3 }
 {
     match part {
         Part::T | Part::J10 => 1,
@@ -76,14 +79,29 @@ fn count_of(part: Part) -> usize
 fn are_nonzero<R: Ring>(ring: &R, letters: &[R::Elem], count: usize) -> bool
     requires ring { R.is_ring ring.now }
     requires letters { All (R.meaning ring.now).is_elem letters.now }
+    requires count { count ≤ length letters.now }
     ensures nonzero { result ≡ true → (let m = R.meaning ring.now in (i : ℕ) → i < count → get_or (map m.value letters.now) i m.scalars.ops.zero ≢ m.scalars.ops.zero) }
 {
     for i in 0..count {
-        if i >= letters.len() || ring.eq(letters[i], ring.zero()) {
+        if ring.eq(letters[i], ring.zero()) {
             return false;
         }
     }
     true
+}
+
+// Whether the discriminant of the form of a part is not zero, where the part is J10.
+fn is_regular<R: Ring>(ring: &R, part: Part, letters: &[R::Elem]) -> Result<bool, Range>
+    requires ring { R.is_ring ring.now }
+    requires letters { All (R.meaning ring.now).is_elem letters.now }
+    requires three_letters { length letters.now ≡ 3 }
+    ensures regular { IfOk result (λ t. t ≡ true → part ≡ parts.J10 → (let m = R.meaning ring.now in discriminant m.scalars (map m.value letters.now) ≢ m.scalars.ops.zero)) }
+{
+    if part != Part::J10 {
+        return Ok(true);
+    }
+    let discriminant = triple_discriminant_of(ring, letters)?;
+    Ok(!ring.eq(discriminant, ring.zero()))
 }
 
 // Whether the letters that the leads of a part are divided by are not zero, nor for J10 is the discriminant of its form.
@@ -93,9 +111,10 @@ fn are_units<R: Ring>(ring: &R, part: Part, letters: &[R::Elem]) -> Result<bool,
     requires three_letters { length letters.now ≡ 3 }
     ensures units { IfOk result (λ t. t ≡ true → (let m = R.meaning ring.now in HasUnits m.scalars (map m.value letters.now) part)) }
 {
-    let discriminant = triple_discriminant_of(ring, letters)?;
-    let regular = part != Part::J10 || !ring.eq(discriminant, ring.zero());
-    Ok(regular && are_nonzero(ring, letters, count_of(part)))
+    if !is_regular(ring, part, letters)? {
+        return Ok(false);
+    }
+    Ok(are_nonzero(ring, letters, count_of(part)))
 }
 
 // The kill move of a grade of a part, with the letters that a jet has.
