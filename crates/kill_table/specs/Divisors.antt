@@ -22,6 +22,7 @@ dividing_letters parts.J10 = 1
 dividing_letters p = length (row p).form
 
 module _ {V : Type 0} (s : Scalars V) (letters : List V) where
+  -- the value of letter i, counted from 0; 0 past the last one
   abbrev pub letter : ℕ → V
   letter i = get_or letters i s.ops.zero
 
