@@ -6,3 +6,4 @@ pub mod Steps
 pub mod Leaving
 pub mod Unipotent
 pub mod Killed
+pub mod Units

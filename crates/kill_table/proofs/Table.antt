@@ -86,7 +86,7 @@ all_fit parts.S12 = refl
 all_fit parts.U12 = refl
 all_fit parts.JT = refl
 
-passes : {A : Type 0} (p : A → Bool) (xs : List A) (x : A) → list_all p xs ≡ true → Contains xs x → p x ≡ true
+pub passes : {A : Type 0} (p : A → Bool) (xs : List A) (x : A) → list_all p xs ≡ true → Contains xs x → p x ≡ true
 passes p xs x h k = subst (λ z. p z ≡ true) k.2 (AllPass-from_list_all p xs h k.0 x k.1)
 
 -- ---- variables

@@ -2,6 +2,7 @@
 //! and what the reduction takes from the variables is a change of coordinates.
 #![tactic(auto)]
 
+mod laws;
 mod moves;
 mod principal;
 mod reduction;
@@ -9,4 +10,5 @@ mod sum;
 
 pub use kill_law::Part;
 pub use kill_leads::grading;
-pub use principal::{Principal, kill, kill_at};
+pub use laws::units_are_enough;
+pub use principal::{Principal, kill, kill_at, letter};

@@ -42,7 +42,7 @@ fn three<E: Copy>(alloc: Global, a: E, b: E, c: E) -> Result<Vec<E>, AllocFailed
 }
 
 /// The letter of a part with number i, as g has it: the coefficient at monomial i of the form.
-fn letter<R: Ring>(ring: &R, part: Part, g: &JetOf<R>, i: usize) -> R::Elem
+pub fn letter<R: Ring>(ring: &R, part: Part, g: &JetOf<R>, i: usize) -> R::Elem
     requires ring { R.is_ring ring.now }
     requires jet { IsJet (R.meaning ring.now) g.now }
     requires of_part { length (row part).weights ≤ g.now.n }

@@ -123,8 +123,12 @@ fn split_of<F: Field<Elem = Ext<Frac>> + Drop>(
     Ok(split(alloc, &over.field, &f, &squares, corank, d)?)
 }
 
-// Appends the parts of a change, and the inverse of its linear part behind a semicolon.
-fn put_change(alloc: Global, out: &mut Vec<u8>, c: &Change<Ext<Frac>>) -> Result<(), Stop> {
+/// Appends the parts of a change, and the inverse of its linear part behind a semicolon.
+pub(crate) fn put_change(
+    alloc: Global,
+    out: &mut Vec<u8>,
+    c: &Change<Ext<Frac>>,
+) -> Result<(), Stop> {
     put_jets(alloc, out, c.parts.as_slice())?;
     out.extend_from_slice(b" ; ")?;
     put_elements(alloc, out, c.inverse.as_slice())

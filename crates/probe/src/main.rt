@@ -5,12 +5,14 @@ mod changes;
 mod forms;
 mod germs;
 mod jets;
+mod kills;
 mod monomials;
 mod numbers;
 mod reports;
 mod rows;
 mod scalars;
 mod shapes;
+mod ternary;
 mod texts;
 mod words;
 
@@ -40,6 +42,8 @@ fn put_answer(alloc: Global, words: &mut Words, out: &mut Vec<u8>) -> Result<(),
         germs::calculate(alloc, command, words, out)
     } else if is(group, b"report") {
         reports::calculate(alloc, command, words, out)
+    } else if is(group, b"ternary") && is(command, b"hessian") {
+        ternary::put_hessian(words, out)
     } else {
         scalars::calculate(alloc, group, command, words, out)
     }
