@@ -117,6 +117,13 @@ module _ {E V : Type 0} (m : Meaning E V) (n : ℕ) where
   pub place_inside : (k i : ℕ) (cs : List (Change E)) (f : Polynomial n V) (jets : List (JetTerms E)) → i ≤ length cs → AreCarried m n k (take i (moves_of cs)) f jets → i < length jets
   place_inside k i cs f jets h a = let x = a.count in let z = length-take-le i (moves_of cs) (let y = length-mapped (move_from m n) cs in omega arith) in omega arith
 
+  -- what is said of the jet that the first i moves make is said of it as the program has it
+  pub at_move_back : (k i : ℕ) (cs : List (Change E)) (change : Change E) (f : Polynomial n V) (jets : List (JetTerms E)) (before : JetTerms E) → i ≤ length cs → change.n ≡ n → before ≡ jet_at jets i
+      → AreCarried m n k (take i (moves_of cs)) f jets → (P : (z : ℕ) → Move z V → Polynomial z V → Type 0) → P n (move_from m n change) (carry_all n m.scalars k (take i (moves_of cs)) f) → P change.n (move_from m change.n change) (poly_of change.n m.value before.terms)
+  at_move_back k i cs change f jets before inside en here a P p =
+      subst (λ z. P z (move_from m z change) (poly_of z m.value before.terms)) (sym en)
+      (subst (P n (move_from m n change)) (sym (ap (λ (u : JetTerms E). poly_of n m.value u.terms) here ∙ (before_is k i cs f jets inside a).polynomial)) p)
+
   module _ (k i : ℕ) (cs : List (Change E)) (change : Change E) (f : Polynomial n V) (jets : List (JetTerms E)) (before : JetTerms E) (inside : i < length cs) (read : change ≡ get_or cs i change) (en : change.n ≡ n)
       (here : before ≡ jet_at jets i) (a : AreCarried m n k (take i (moves_of cs)) f jets) where
     at_move : (P : (z : ℕ) → Move z V → Polynomial z V → Type 0) → P change.n (move_from m change.n change) (poly_of change.n m.value before.terms) → P n (move_from m n change) (carry_all n m.scalars k (take i (moves_of cs)) f)
@@ -182,6 +189,16 @@ module _ {E V : Type 0} (m : Meaning E V) (n : ℕ) where
           count = more.count;
           jets_are = more.each;
         }
+
+  -- what is said of the moves and the germ is said of the changes and the jet of the program
+  pub of_changes : ScalarLaws m.scalars → (last o k : ℕ) (g : Polynomial n V) (ms : List (Move n V)) (c : ChainParts E) → IsChain m n last g o ms c → k ≡ o → (P : (i z : ℕ) → List (Move z V) → Polynomial z V → Type 0) (germ : JetTerms E) (cs : List (Change E))
+      → germ ≡ c.germ → cs ≡ c.moves → P o n ms (jet n m.scalars o g) → P k germ.n (map (move_from m germ.n) cs) (jet germ.n m.scalars k (poly_of germ.n m.value germ.terms))
+  of_changes l last o k g ms c q ek P germ cs eg ec p =
+      let own = ap (map (move_from m n)) ec ∙ moves_are last ms c.moves q.moves_are in
+      let start : jet n m.scalars o (poly_of n m.value germ.terms) ≡ jet n m.scalars o g = ap (λ (u : JetTerms E). jet n m.scalars o (poly_of n m.value u.terms)) eg ∙ ap (jet n m.scalars o) q.germ_is.polynomial ∙ jet-jet n m.scalars l o last q.order_at_most_last g in
+      subst (λ z. P k z (map (move_from m z) cs) (jet z m.scalars k (poly_of z m.value germ.terms))) (sym (ap (λ (u : JetTerms E). u.n) eg ∙ q.germ_is.variables))
+      (subst (λ i. P i n (map (move_from m n) cs) (jet n m.scalars i (poly_of n m.value germ.terms))) (sym ek)
+      (subst (λ w. P o n w (jet n m.scalars o (poly_of n m.value germ.terms))) (sym own) (subst (λ f. P o n ms f) (sym start) p)))
 
   -- what is made of the germ by the changes up to degree k = o + 1 is made of it by the moves
   module _ (l : ScalarLaws m.scalars) (last o k : ℕ) (g : Polynomial n V) (ms : List (Move n V)) (c : ChainParts E) (q : IsChain m n last g o ms c) (next : k ≡ o + 1) (le : k ≤ last) where

@@ -12,3 +12,5 @@ pub mod Negatives
 pub mod Canonicals
 pub mod CompositeLemmas
 pub mod ChainLemmas
+pub mod CarryLemmas
+pub mod GrowthLemmas

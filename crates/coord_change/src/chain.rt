@@ -14,8 +14,9 @@ ghost use Rattle.coord_change.specs.Chains.{carried_in, IsChain, IsStanding};
 
 use crate::change::{Change, ChangeOf};
 use crate::composed::composed;
+use crate::growth::grown_jets;
 use crate::parts::{copied, copy};
-use crate::pullback::{carried_jet, carried_jets, truncated};
+use crate::pullback::{carried_jet, truncated};
 use crate::steps::Steps;
 use crate::unit::identity;
 use jet_poly::{Jet, JetOf};
@@ -66,6 +67,13 @@ impl<E> Chain<E> {
         ensures { result.now ≡ self.now.moves }
     {
         self.moves.as_slice()
+    }
+
+    /// The carried jets, of which number i belongs to the first i moves.
+    fn jets(&self) -> &[Jet<E>]
+        ensures { result.now ≡ self.now.jets }
+    {
+        self.jets.as_slice()
     }
 
     /// The jet that all moves make of the germ.
@@ -159,8 +167,8 @@ pub fn push<R: Ring, L: Ledger>(
     Ok(())
 }
 
-/// The chain at the next order, with the same moves. Each jet is carried anew, and no step is
-/// counted.
+/// The chain at the next order, with the same moves. Of each carried jet only the terms of that
+/// degree are formed: one step for each move.
 ///
 /// Errors: `Range` only where a number that carrying the germ by the moves up to that order forms
 /// has height 2^120 or more. The chain is then as before.
@@ -178,11 +186,11 @@ pub fn grow<R: Ring, L: Ledger>(
     ensures refused { OnErr result (chain.new ≡ chain.old) }
     ensures range { OnFault result (let m = R.meaning ring.now in (n last o : ℕ) (g : Polynomial n (R.Value ring.now)) (moves : List (Move n (R.Value ring.now)))
         → IsChain m n last g o moves chain.old → IsCarryAllHigh n m.scalars (suc o) moves (jet n m.scalars (suc o) g)) }
+    ensures steps { steps.new ≤ steps.old + length chain.old.moves }
 {
-    let _ = steps;
-    let next = chain.order() + 1;
-    let jets = carried_jets(alloc, ring, chain.germ(), chain.moves(), next)?;
-    chain.set(next, jets);
+    let o = chain.order();
+    let jets = grown_jets(alloc, ring, chain.germ(), chain.moves(), chain.jets(), o, steps)?;
+    chain.set(o + 1, jets);
     Ok(())
 }
 

@@ -8,6 +8,7 @@ mod composed;
 mod composition;
 mod error;
 mod forms;
+mod growth;
 mod inverse;
 mod inversion;
 mod matrix;

@@ -1,6 +1,6 @@
 //! The transformed jet.
 
-ghost use Rattle.std.specs.Prelude.{◌≡◌, ◌≤◌, IfOk, All, map};
+ghost use Rattle.std.specs.Prelude.{◌≡◌, ◌≤◌, IfOk};
 ghost use Rattle.poly_law.specs.ExpList.{exps};
 ghost use Rattle.poly_law.specs.Polynomials.{SameIn, cut_in, substitute};
 ghost use Rattle.ring_law.specs.Refusals.{OnFault};
@@ -12,9 +12,8 @@ ghost use Rattle.jet_subst.specs.Substitutions.{IsSubstHigh};
 ghost use Rattle.coord_change.specs.Changes.{IsChange};
 ghost use Rattle.coord_change.specs.Moves.{move_from};
 ghost use Rattle.coord_change.specs.Carries.{carry as carry_of};
-ghost use Rattle.coord_change.specs.CarryHeights.{IsCarryHigh, IsCarryAllHigh};
+ghost use Rattle.coord_change.specs.CarryHeights.{IsCarryHigh};
 ghost use Rattle.coord_change.specs.MoveJets.{IsJetFor};
-ghost use Rattle.coord_change.specs.Chains.{AreCarried};
 
 use crate::change::ChangeOf;
 use jet_poly::{JetOf, cut};
@@ -88,35 +87,4 @@ pub(crate) fn truncated<R: Ring>(
     let jet = cut(alloc, ring, f, k)?;
     let _terms = jet.terms();
     Ok(jet)
-}
-
-/// The jets that the first moves make of f, one after the other, each step cut at degree k.
-///
-/// Errors: `Range` only where a number that one of these substitutions forms has height 2^120 or
-/// more.
-pub(crate) fn carried_jets<R: Ring>(
-    alloc: Global,
-    ring: &R,
-    f: &JetOf<R>,
-    moves: &[ChangeOf<R>],
-    k: u8,
-) -> Result<Vec<JetOf<R>>, Fault>
-    requires ring { R.is_ring ring.now }
-    requires jet { IsJet (R.meaning ring.now) f.now }
-    requires changes { All (IsChange (R.meaning ring.now)) moves.now }
-    requires variables { All (λ c. c.n ≡ f.now.n) moves.now }
-    requires order_at_most_17 { k ≤ 17 }
-    ensures jets { IfOk result (λ v. let m = R.meaning ring.now in let n = f.now.n in
-        AreCarried m n k (map (move_from m n) moves.now) (jet n m.scalars k (poly_of n m.value f.now.terms)) v.items) }
-    ensures range { OnFault result (let m = R.meaning ring.now in let n = f.now.n in
-        IsCarryAllHigh n m.scalars k (map (move_from m n) moves.now) (jet n m.scalars k (poly_of n m.value f.now.terms))) }
-{
-    let first = truncated(alloc, ring, f, k)?;
-    let mut jets = Vec::new(alloc);
-    jets.push(first)?;
-    for i in 0..moves.len() {
-        let next = carried_jet(alloc, ring, &moves[i], &jets[i], k)?;
-        jets.push(next)?;
-    }
-    Ok(jets)
 }

@@ -4,3 +4,4 @@ pub mod Monomials
 pub mod Tables
 pub mod Multiples
 pub mod KeptLemmas
+pub mod BlockLemmas

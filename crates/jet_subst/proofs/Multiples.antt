@@ -23,7 +23,7 @@ use Rattle.jet_subst.specs.Substitutions.{Summand, IsSubstHigh, IsMultipleHigh}
 use Rattle.jet_subst.proofs.Reduced
 use Rattle.jet_subst.proofs.Tables.{all_push, at-map, length-mapped}
 
-flat_map-append : {X Y : Type 0} (f : X → List Y) (xs ys : List X) → flat_map f (xs ++ ys) ≡ flat_map f xs ++ flat_map f ys
+pub flat_map-append : {X Y : Type 0} (f : X → List Y) (xs ys : List X) → flat_map f (xs ++ ys) ≡ flat_map f xs ++ flat_map f ys
 flat_map-append f [] ys = refl
 flat_map-append f (x ∷ xs) ys = ap (λ z. f x ++ z) (flat_map-append f xs ys) ∙ sym (append_assoc (f x) (flat_map f xs) (flat_map f ys))
 
@@ -92,7 +92,7 @@ module _ {E V : Type 0} (m : Meaning E V) (c : IsCommRing m.scalars.ops) (n k : 
       ∙ ap (m.scalars.ops.mul a) (sym (Pair.coefficient_is (exps n) m.scalars.ops c f b))
 
   -- up to degree k, the multiples add up to the substitution
-  adds_up : (us : List (Summand (ExpList count) (ExpList n) V)) → All (λ u. IsTruncation (exps n) m.scalars.ops k (image u.exponent) u.power) us
+  pub adds_up : (us : List (Summand (ExpList count) (ExpList n) V)) → All (λ u. IsTruncation (exps n) m.scalars.ops k (image u.exponent) u.power) us
       → SameTo (exps n) m.scalars.ops k (flat_map multiple_of us) (subst_in (exps count) (exps n) m.scalars.ops (part_of n m.value parts) (map term_of us))
   adds_up [] p b h = refl
   adds_up (u ∷ us) p b h =
