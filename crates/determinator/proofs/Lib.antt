@@ -21,3 +21,4 @@ mod Finishing
 mod TestLemmas
 mod LiftLemmas
 mod LineAnswers
+pub mod Exactly

@@ -9,3 +9,4 @@ pub mod Starts
 pub mod Answered
 pub mod Naming
 pub mod Lines
+pub mod Exact

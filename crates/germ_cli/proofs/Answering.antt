@@ -2,7 +2,7 @@
 use Rattle.cert_text.specs.Text.{report_text}
 use Rattle.cert_text.specs.declared.report.Report.{Report}
 use Rattle.germ_cli.specs.Answers.{IsAnswerText, IsTextFor}
-use Rattle.one_variable_law.specs.Plan.{IsAnswer}
+use Rattle.determinator.specs.Lines.{IsAnswer}
 use Rattle.germ_cli.specs.Run.{WroteAnswers, WroteFront, texts_of}
 use Rattle.line_io.proofs.Handing.{answered_of-append}
 use Rattle.line_io.proofs.Known.{Appends-none, Appends-then}

@@ -4,7 +4,7 @@ use Rattle.cert_text.specs.declared.report.Report.TheVariants as reports
 use Rattle.cert_text.specs.declared.report.Report.{Report}
 use Rattle.germ_cli.specs.Answers.{IsAnswerText}
 use Rattle.line_io.specs.LineSoFar.{IsUnbroken}
-use Rattle.one_variable_law.specs.Plan.{IsAnswer}
+use Rattle.determinator.specs.Lines.{IsAnswer}
 use Rattle.std.proofs.Common.{◌≡◌, ℕ, suc, ◌^◌, ◌<◌, Bool, true, false, not, List, [], ◌∷◌, length, get_or, Fits, w8, refl, lt-ltb}
 use Rattle.std.proofs.lemmas.Bool.{ne_eqb}
 use Rattle.std.specs.List.{list_all}

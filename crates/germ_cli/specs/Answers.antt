@@ -2,7 +2,7 @@
 use Rattle.cert_text.specs.Text.{report_text}
 use Rattle.cert_text.specs.declared.report.Report.{Report}
 use Rattle.line_io.specs.Lines.{is_answered}
-use Rattle.one_variable_law.specs.Plan.{IsAnswer}
+use Rattle.determinator.specs.Lines.{IsAnswer}
 use Rattle.std.specs.Bool.{MatchBool}
 use Rattle.std.specs.Prelude.{◌≡◌, ℕ, List, []}
 

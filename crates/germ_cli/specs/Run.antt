@@ -1,7 +1,7 @@
 -- What a run writes, and how it ends.
 use Rattle.cert_text.specs.Text.{report_text}
 use Rattle.cert_text.specs.declared.report.Report.{Report}
-use Rattle.one_variable_law.specs.Plan.{IsAnswer}
+use Rattle.determinator.specs.Lines.{IsAnswer}
 use Rattle.germ_cli.specs.declared.status.Status.TheVariants as statuses
 use Rattle.germ_cli.specs.declared.status.Status.{Status}
 use Rattle.line_io.specs.Bytes.{AppendsPart, ReadsWhole}

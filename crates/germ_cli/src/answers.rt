@@ -7,7 +7,7 @@ ghost use Rattle.std.specs.Prelude.{◌≡◌, ◌≤◌, ◌<◌, ℕ, List, le
 
 use cert_text::{Report, write_report};
 use line_io::{MAX_LINE, Next, is_answered_line};
-use one_variable::classify;
+use determinator::classify;
 use ring_law::NoMemory;
 use std::alloc::Global;
 

@@ -6,7 +6,7 @@ ghost use Rattle.germ_cli.specs.Words.{AskForNothing, AsksFor, IsWithinLimits, i
 ghost use Rattle.line_io.specs.Causes.{Rose};
 ghost use Rattle.line_io.specs.Chunks.{chunks_of};
 ghost use Rattle.line_io.specs.Lines.{answered_lines};
-ghost use Rattle.one_variable.specs.Laws.{IsExact};
+ghost use Rattle.determinator.specs.Exact.{IsExact};
 ghost use Rattle.std.specs.Io.KnownBytes.{Keeps};
 ghost use Rattle.std.specs.Prelude.{◌≡◌, ◌≤◌, ℕ, false, map, true, IfSome, string_bytes};
 

@@ -5,7 +5,7 @@ use Rattle.germ_cli.specs.Run.{TakesWithin}
 use Rattle.germ_cli.specs.Words.{AsksFor, input_limit_of}
 use Rattle.germ_cli.specs.declared.command.Command.TheVariants as commands
 use Rattle.germ_cli.specs.declared.command.Command.{Command}
-use Rattle.one_variable.proofs.Exactly.{exact}
+use Rattle.determinator.proofs.Exactly.{exact}
 use Rattle.std.proofs.Common.{inl, map, refl, subst}
 use Rattle.std.specs.Prelude.{string_bytes}
 

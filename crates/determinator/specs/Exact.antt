@@ -2,17 +2,20 @@
 use Rattle.cert_text.specs.declared.report.Answer.TheVariants as answers
 use Rattle.cert_text.specs.declared.report.Limit as limit_type
 use Rattle.cert_text.specs.declared.report.Named as named_type
+use Rattle.cert_text.specs.declared.report.Outside as outside_type
+use Rattle.cert_text.specs.declared.report.Unresolved as unresolved_type
 use Rattle.cert_text.specs.declared.report.Phase.TheVariants as phases
 use Rattle.cert_text.specs.declared.report.Phase.{Phase}
 use Rattle.cert_text.specs.declared.report.Report.TheVariants as reports
 use Rattle.cert_text.specs.declared.report.Report.{Report}
 use Rattle.line_syntax.specs.Syntax.{Line}
-use Rattle.one_variable_law.specs.Plan.{IsAnswer, IsOneVariable}
+use Rattle.planned_law.specs.Planned.{IsUnbuilt, corank_of_line, is_unbuilt}
+use Rattle.determinator.specs.Lines.{IsAnswer}
 use Rattle.poly_text.specs.declared.name.Name.{Name}
 use Rattle.poly_text.specs.declared.what.What.{What}
 use Rattle.line_germ.specs.Reads.{IsSyntaxAt, IsLiteralAt, IsLinearIn}
-use Rattle.report_law.specs.Right.{IsManyVariables}
-use Rattle.std.specs.Prelude.{◌≡◌, ◌↔◌, ◌⊎◌, ℕ, ◌<◌, ◌≤◌, List, length}
+use Rattle.germ_law.specs.Germ.{IsCritical}
+use Rattle.std.specs.Prelude.{◌≡◌, ◌↔◌, ◌⊎◌, false, ℕ, ◌<◌, ◌≤◌, List, length}
 
 -- the report that answers a line is the too-long one exactly where the line has more than 65,536 bytes, with their number
 abbrev pub IsTooLongExactly : Type 0
@@ -42,22 +45,23 @@ pub record IsNotCriticalExactly : Type 0 where
   pub answered : (limit : ℕ) (line : List ℕ) (r : Report) → IsAnswer limit line r → (variable : Name) → length line ≤ 65536 → IsLinearIn line variable
       → (r ≡ reports.Line line (answers.NotCritical variable)) ⊎ (r ≡ reports.Line line (answers.Range phases.Line))
 
--- a line is answered `unbuilt` only where it is critical in more than one variable; and such a line is answered so, or `range` in the
--- phase of reading
+-- a line is answered `unbuilt` only where it is critical of corank 2 or 3; and such a line is answered so, or `range`
 pub record IsUnbuiltExactly : Type 0 where
-  pub only : (limit : ℕ) (line : List ℕ) (r : Report) → IsAnswer limit line r → r ≡ reports.Line line answers.Unbuilt → IsManyVariables line
-  pub answered : (limit : ℕ) (line : List ℕ) (r : Report) → IsAnswer limit line r → IsManyVariables line
-      → (r ≡ reports.Line line answers.Unbuilt) ⊎ (r ≡ reports.Line line (answers.Range phases.Line))
+  pub only : (limit : ℕ) (line : List ℕ) (r : Report) → IsAnswer limit line r → r ≡ reports.Line line answers.Unbuilt → IsUnbuilt limit line
+  pub answered : (limit : ℕ) (line : List ℕ) (r : Report) → IsAnswer limit line r → IsUnbuilt limit line
+      → (r ≡ reports.Line line answers.Unbuilt) ⊎ ((phase : Phase) × (r ≡ reports.Line line (answers.Range phase)))
 
--- the report is a name, a limit, or `range`
+-- the report is a name, a pattern past the list, a limit, one without a name, or `range`
 pub data IsDecided (line : List ℕ) (r : Report) : Type 0 where
   named : (n : named_type.Named) → r ≡ reports.Line line (answers.Named n) → IsDecided line r
+  outside : (n : outside_type.Outside) → r ≡ reports.Line line (answers.Outside n) → IsDecided line r
   undecided : (n : limit_type.Limit) → r ≡ reports.Line line (answers.Limit n) → IsDecided line r
+  unresolved : (n : unresolved_type.Unresolved) → r ≡ reports.Line line (answers.Unresolved n) → IsDecided line r
   high : (phase : Phase) → r ≡ reports.Line line (answers.Range phase) → IsDecided line r
 
--- a critical line in one variable is named, or answered `limit` or `range`
-abbrev pub IsDecidedInOneVariable : Type 0
-IsDecidedInOneVariable = (limit : ℕ) (line : List ℕ) (r : Report) → IsAnswer limit line r → (l : Line) → IsOneVariable line l → IsDecided line r
+-- each critical line of another corank is decided so
+abbrev pub IsDecidedExactly : Type 0
+IsDecidedExactly = (limit : ℕ) (line : List ℕ) (r : Report) → IsAnswer limit line r → (l : Line) → IsCritical line l → is_unbuilt (corank_of_line l) ≡ false → IsDecided line r
 
 -- which lines get which answer, exactly
 pub record IsExact : Type 0 where
@@ -66,4 +70,4 @@ pub record IsExact : Type 0 where
   pub literal : IsLiteralExactly
   pub not_critical : IsNotCriticalExactly
   pub unbuilt : IsUnbuiltExactly
-  pub one_variable : IsDecidedInOneVariable
+  pub decided : IsDecidedExactly

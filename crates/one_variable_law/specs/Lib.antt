@@ -1,4 +1,0 @@
-pub mod Reports
-pub mod Plan
-pub mod Answers
-pub mod Examples
