@@ -1,4 +1,5 @@
 mod Hessians
+pub mod MatrixRows
 mod KernelLemmas
 mod CubicJets
 mod Multiples

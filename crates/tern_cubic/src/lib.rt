@@ -6,9 +6,13 @@
 mod cubic;
 mod hessian;
 mod kernel;
+mod matrix;
 mod rows;
+mod steps;
 
 pub use cubic::cubic_jet;
 pub use hessian::hessian3;
 pub use kernel::{Kernel, kernel_of, rank_of};
+pub use matrix::{Matrix, axis_matrix, pair_matrix, plane_matrix, shear};
 pub use rows::{partial_rows, product_rows};
+pub use steps::{cusp_third, node_step, tangent_third};

@@ -1,0 +1,109 @@
+//! The matrices of the last steps of a node, a cusp and a conic with a tangent, by the cubic that
+//! is reached.
+
+ghost use Rattle.std.specs.Prelude.{◌≡◌, ◌≢◌, ◌++◌, IfOk};
+ghost use Rattle.ring_law.specs.Refusals.{OnRange};
+ghost use Rattle.lin_row.specs.Plain.{Among};
+ghost use Rattle.jet_law.specs.Terms.{poly_of};
+ghost use Rattle.jacobian_row.specs.Rows.{IsJetIn};
+ghost use Rattle.move_law.specs.Moves.{over};
+ghost use Rattle.move_law.specs.Shapes.{over_work};
+ghost use Rattle.move_law.specs.Work.{IsWorkHigh};
+ghost use Rattle.ternary_law.specs.Cubics.{coef as coefficient_of};
+ghost use Rattle.ternary_law.specs.Steps.{node_divisor, node_step as node_step_of, cusp_third_divisor, cusp_third as cusp_third_of, tangent_third_divisor, tangent_third as tangent_third_of};
+ghost use Rattle.ternary_law.specs.Rules.{node_step as node_rule};
+ghost use Rattle.tern_cubic.specs.Matrices.{IsMatrix};
+
+use crate::matrix::{Matrix, quotient, shear};
+use jet_poly::{JetOf, coef};
+use mono_exp::Exp;
+use ring_law::{Field, Range, Ring};
+
+/// The coefficient of x^i*y^j*z^k.
+fn coefficient<R: Ring>(ring: &R, f: &JetOf<R>, i: u8, j: u8, k: u8) -> R::Elem
+    requires ring { R.is_ring ring.now }
+    requires jet { IsJetIn (R.meaning ring.now) 3 f.now }
+    ensures elem { (R.meaning ring.now).is_elem result }
+    ensures value { let m = R.meaning ring.now in m.value result ≡ coefficient_of m.scalars (poly_of 3 m.value f.now.terms) i j k }
+{
+    coef(
+        ring,
+        f,
+        Exp {
+            e: [i, j, k, 0, 0, 0, 0, 0],
+        },
+    )
+}
+
+/// The coefficient of x^i*y^j*z^k over a number that is not 0.
+fn coefficient_over<F: Field>(
+    field: &F,
+    f: &JetOf<F>,
+    i: u8,
+    j: u8,
+    k: u8,
+    divisor: F::Elem,
+) -> Result<F::Elem, Range>
+    requires field { F.is_ring field.now }
+    requires jet { IsJetIn (F.meaning field.now) 3 f.now }
+    requires divisor { (F.meaning field.now).is_elem divisor }
+    requires nonzero { let m = F.meaning field.now in m.value divisor ≢ m.scalars.ops.zero }
+    ensures elem { IfOk result (F.meaning field.now).is_elem }
+    ensures value { IfOk result (λ x. let m = F.meaning field.now in m.value x ≡ over m.scalars (coefficient_of m.scalars (poly_of 3 m.value f.now.terms) i j k) (m.value divisor)) }
+    ensures range { OnRange result (let m = F.meaning field.now in
+        Among (IsWorkHigh 3 m.scalars) (over_work m.scalars 3 (coefficient_of m.scalars (poly_of 3 m.value f.now.terms) i j k) (m.value divisor))) }
+{
+    let x = coefficient(field, f, i, j, k);
+    quotient(field, x, divisor)
+}
+
+/// The matrix of the last step of a node, after the pair rule: with κ the coefficient of x*y*z, z
+/// goes to z - coef(x^2*y)/κ*x - coef(x*y^2)/κ*y.
+///
+/// Errors: `Range` only where an operation of the two quotients has height 2^120 or more.
+pub fn node_step<F: Field>(field: &F, f: &JetOf<F>) -> Result<Matrix<F::Elem>, Range>
+    requires field { F.is_ring field.now }
+    requires jet { IsJetIn (F.meaning field.now) 3 f.now }
+    requires nonzero { let m = F.meaning field.now in node_divisor m.scalars (poly_of 3 m.value f.now.terms) ≢ m.scalars.ops.zero }
+    ensures matrix { IfOk result (let m = F.meaning field.now in IsMatrix m (node_step_of m.scalars (poly_of 3 m.value f.now.terms))) }
+    ensures range { OnRange result (let m = F.meaning field.now in Among (IsWorkHigh 3 m.scalars) ((node_rule m.scalars).works (poly_of 3 m.value f.now.terms))) }
+{
+    let divisor = coefficient(field, f, 1, 1, 1);
+    let a = coefficient_over(field, f, 2, 1, 0, divisor)?;
+    let b = coefficient_over(field, f, 1, 2, 0, divisor)?;
+    Ok(shear(field, 2, 0, a, b))
+}
+
+/// The matrix of the last step of a cusp: with κ the coefficient of y*z^2, y goes to
+/// y - coef(x*z^2)/κ*x - coef(z^3)/κ*z.
+///
+/// Errors: `Range` only where an operation of the two quotients has height 2^120 or more.
+pub fn cusp_third<F: Field>(field: &F, f: &JetOf<F>) -> Result<Matrix<F::Elem>, Range>
+    requires field { F.is_ring field.now }
+    requires jet { IsJetIn (F.meaning field.now) 3 f.now }
+    requires nonzero { let m = F.meaning field.now in cusp_third_divisor m.scalars (poly_of 3 m.value f.now.terms) ≢ m.scalars.ops.zero }
+    ensures matrix { IfOk result (let m = F.meaning field.now in IsMatrix m (cusp_third_of m.scalars (poly_of 3 m.value f.now.terms))) }
+    ensures range { OnRange result (let m = F.meaning field.now in let s = m.scalars in let g = poly_of 3 m.value f.now.terms in
+        Among (IsWorkHigh 3 s) (over_work s 3 (coefficient_of s g 1 0 2) (coefficient_of s g 0 1 2) ++ over_work s 3 (coefficient_of s g 0 0 3) (coefficient_of s g 0 1 2))) }
+{
+    let divisor = coefficient(field, f, 0, 1, 2);
+    let a = coefficient_over(field, f, 1, 0, 2, divisor)?;
+    let b = coefficient_over(field, f, 0, 0, 3, divisor)?;
+    Ok(shear(field, 1, 0, a, b))
+}
+
+/// The matrix of the last step of a conic with a tangent: x goes to x - coef(z^3)/coef(x*z^2)*z.
+///
+/// Errors: `Range` only where an operation of the quotient has height 2^120 or more.
+pub fn tangent_third<F: Field>(field: &F, f: &JetOf<F>) -> Result<Matrix<F::Elem>, Range>
+    requires field { F.is_ring field.now }
+    requires jet { IsJetIn (F.meaning field.now) 3 f.now }
+    requires nonzero { let m = F.meaning field.now in tangent_third_divisor m.scalars (poly_of 3 m.value f.now.terms) ≢ m.scalars.ops.zero }
+    ensures matrix { IfOk result (let m = F.meaning field.now in IsMatrix m (tangent_third_of m.scalars (poly_of 3 m.value f.now.terms))) }
+    ensures range { OnRange result (let m = F.meaning field.now in let s = m.scalars in let g = poly_of 3 m.value f.now.terms in
+        Among (IsWorkHigh 3 s) (over_work s 3 (coefficient_of s g 0 0 3) (coefficient_of s g 1 0 2))) }
+{
+    let divisor = coefficient(field, f, 1, 0, 2);
+    let a = coefficient_over(field, f, 0, 0, 3, divisor)?;
+    Ok(shear(field, 0, 2, a, field.zero()))
+}
