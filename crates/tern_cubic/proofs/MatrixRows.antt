@@ -8,9 +8,9 @@ use Rattle.mono_exp.specs.Exponents.{IsIn}
 use Rattle.mono_exp.specs.declared.exponent.Exp.{Exp}
 use Rattle.jet_law.specs.Terms.{exp_of, poly_of}
 use Rattle.jet_poly.specs.JetTerms.{JetTerms}
-use Rattle.move_law.specs.Moves.{over}
-use Rattle.ternary_law.specs.Matrices.{Matrix, places, two_in_row}
-use Rattle.ternary_law.specs.Steps.{axis_matrix, plane_matrix, first_place, last_place, shear, node_step, cusp_third, tangent_third}
+use Rattle.move_law.specs.Moves.{over, whole}
+use Rattle.ternary_law.specs.Matrices.{Matrix, places, unit_row, two_in_row}
+use Rattle.ternary_law.specs.Steps.{axis_matrix, plane_matrix, first_place, last_place, less_row, shear, node_step, secant_step, cusp_second, cusp_third, tangent_second, tangent_third}
 use Rattle.ternary_law.specs.Cubics.{coef}
 use Rattle.tern_cubic.specs.Matrices.{IsRow, IsMatrix, vector_of, axis_entry_of, pivot_entry_of}
 
@@ -97,6 +97,40 @@ module _ {E V : Type 0} (m : Meaning E V) where
       → a ≡ over m.scalars (coef m.scalars f 0 0 3) k → b ≡ m.scalars.ops.zero → IsMatrix m (shear m.scalars 0 2 1 a b) rows → IsMatrix m (tangent_third m.scalars f) rows
   unfolding tangent_third
   tangent_third_is f k a b rows ek ea eb h = shear_is 0 2 1 a b _ _ rows (ea ∙ ap (over m.scalars (coef m.scalars f 0 0 3)) ek) eb h
+
+  -- a row that takes two numbers from its variable, by what these are
+  pub less_row_is : (i j k : ℕ) (a b c d : V) (r : List E) → a ≡ c → b ≡ d → IsRow m (less_row m.scalars i j k a b) r → IsRow m (less_row m.scalars i j k c d) r
+  less_row_is i j k a b c d r ea eb h =
+      let same : less_row m.scalars i j k a b ≡ less_row m.scalars i j k c d = λ t. less_row m.scalars i j k (ea t) (eb t) in subst (λ w. IsRow m w r) same h
+
+  -- the rows of the last step of a conic with a secant
+  abbrev pub secant_row : Polynomial 3 V → ℕ → List V
+  secant_row f o =
+      let k = coef m.scalars f 1 1 1 in
+      if o == 1 then less_row m.scalars 1 0 2 (over m.scalars (coef m.scalars f 2 0 1) k) m.scalars.ops.zero
+      else (if o == 2 then less_row m.scalars 2 0 1 (over m.scalars (coef m.scalars f 2 1 0) k) m.scalars.ops.zero else unit_row m.scalars o)
+
+  -- the last step of a conic with a secant
+  pub secant_step_is : (f : Polynomial 3 V) (r0 r1 r2 : List E) → IsRow m (secant_row f 0) r0 → IsRow m (secant_row f 1) r1 → IsRow m (secant_row f 2) r2
+      → IsMatrix m (secant_step m.scalars f) (r0 ∷ r1 ∷ r2 ∷ [])
+  unfolding secant_step
+  secant_step_is f r0 r1 r2 h0 h1 h2 = three_rows _ _ _ r0 r1 r2 h0 h1 h2
+
+  -- the second step of a cusp
+  pub cusp_second_is : (f : Polynomial 3 V) (k a b : V) (rows : List (List E)) → k ≡ coef m.scalars f 3 0 0
+      → a ≡ over m.scalars (coef m.scalars f 2 0 1) (m.scalars.ops.mul (whole m.scalars 3) k) → b ≡ m.scalars.ops.zero
+      → IsMatrix m (shear m.scalars 0 2 1 a b) rows → IsMatrix m (cusp_second m.scalars f) rows
+  unfolding cusp_second
+  cusp_second_is f k a b rows ek ea eb h =
+      shear_is 0 2 1 a b _ _ rows (ea ∙ ap (λ d. over m.scalars (coef m.scalars f 2 0 1) (m.scalars.ops.mul (whole m.scalars 3) d)) ek) eb h
+
+  -- the second step of a conic with a tangent
+  pub tangent_second_is : (f : Polynomial 3 V) (k a b : V) (rows : List (List E)) → k ≡ coef m.scalars f 0 2 1
+      → a ≡ over m.scalars (coef m.scalars f 0 1 2) (m.scalars.ops.mul (whole m.scalars 2) k) → b ≡ m.scalars.ops.zero
+      → IsMatrix m (shear m.scalars 1 2 0 a b) rows → IsMatrix m (tangent_second m.scalars f) rows
+  unfolding tangent_second
+  tangent_second_is f k a b rows ek ea eb h =
+      shear_is 1 2 0 a b _ _ rows (ea ∙ ap (λ d. over m.scalars (coef m.scalars f 0 1 2) (m.scalars.ops.mul (whole m.scalars 2) d)) ek) eb h
 
   -- a coefficient of a jet in three variables
   pub coefficient_in_three : (f : JetTerms E) (i j k : ℕ) (x : V) → f.n ≡ 3

@@ -269,7 +269,7 @@ fn less_entry<R: Ring>(
 }
 
 /// The row with 1 at place i, -a at place j and -b at the third place.
-fn less_row<R: Ring>(ring: &R, i: usize, j: usize, a: R::Elem, b: R::Elem) -> [R::Elem; 3]
+pub(crate) fn less_row<R: Ring>(ring: &R, i: usize, j: usize, a: R::Elem, b: R::Elem) -> [R::Elem; 3]
     requires ring { R.is_ring ring.now }
     requires first { (R.meaning ring.now).is_elem a }
     requires second { (R.meaning ring.now).is_elem b }
@@ -339,7 +339,7 @@ fn two_in_row<R: Ring>(
 }
 
 /// Row o of the matrix of the pair rule: the first row at the place i, and the second at j.
-fn pair_row<R: Ring>(
+pub(crate) fn pair_row<R: Ring>(
     ring: &R,
     o: usize,
     i: usize,

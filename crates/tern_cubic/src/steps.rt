@@ -1,23 +1,23 @@
-//! The matrices of the last steps of a node, a cusp and a conic with a tangent, by the cubic that
-//! is reached.
+//! The matrices of the steps of a node, a cusp, and a conic with a secant or with a tangent, each by
+//! the cubic that is reached.
 
-ghost use Rattle.std.specs.Prelude.{◌≡◌, ◌≢◌, ◌++◌, IfOk};
+ghost use Rattle.std.specs.Prelude.{◌≡◌, ◌≢◌, ◌++◌, ◌<◌, IfOk};
 ghost use Rattle.ring_law.specs.Refusals.{OnRange};
 ghost use Rattle.lin_row.specs.Plain.{Among};
 ghost use Rattle.jet_law.specs.Terms.{poly_of};
 ghost use Rattle.jacobian_row.specs.Rows.{IsJetIn};
-ghost use Rattle.move_law.specs.Moves.{over};
-ghost use Rattle.move_law.specs.Shapes.{over_work};
-ghost use Rattle.move_law.specs.Work.{IsWorkHigh};
+ghost use Rattle.move_law.specs.Moves.{over, whole as whole_of};
+ghost use Rattle.move_law.specs.Shapes.{over_work, over_multiple_work};
+ghost use Rattle.move_law.specs.Work.{IsWorkHigh, product};
 ghost use Rattle.ternary_law.specs.Cubics.{coef as coefficient_of};
-ghost use Rattle.ternary_law.specs.Steps.{node_divisor, node_step as node_step_of, cusp_third_divisor, cusp_third as cusp_third_of, tangent_third_divisor, tangent_third as tangent_third_of};
-ghost use Rattle.ternary_law.specs.Rules.{node_step as node_rule};
+ghost use Rattle.ternary_law.specs.Steps.{node_divisor, node_step as node_step_of, cusp_third_divisor, cusp_third as cusp_third_of, tangent_third_divisor, tangent_third as tangent_third_of, secant_step as secant_step_of, cusp_second as cusp_second_of, tangent_second as tangent_second_of};
+ghost use Rattle.ternary_law.specs.Rules.{node_step as node_rule, secant_step as secant_rule};
 ghost use Rattle.tern_cubic.specs.Matrices.{IsMatrix};
 
-use crate::matrix::{Matrix, quotient, shear};
+use crate::matrix::{Matrix, less_row, pair_row, quotient, shear};
 use jet_poly::{JetOf, coef};
 use mono_exp::Exp;
-use ring_law::{Field, Range, Ring};
+use ring_law::{Field, Frac, Range, Ring};
 
 /// The coefficient of x^i*y^j*z^k.
 fn coefficient<R: Ring>(ring: &R, f: &JetOf<R>, i: u8, j: u8, k: u8) -> R::Elem
@@ -55,6 +55,56 @@ fn coefficient_over<F: Field>(
 {
     let x = coefficient(field, f, i, j, k);
     quotient(field, x, divisor)
+}
+
+/// The whole number k.
+fn whole<R: Ring>(ring: &R, k: u8) -> R::Elem
+    requires { R.is_ring ring.now }
+    ensures elem { (R.meaning ring.now).is_elem result }
+    ensures value { let m = R.meaning ring.now in m.value result ≡ whole_of m.scalars k }
+{
+    ring.inject(Frac {
+        num: i128::from(k),
+        den: 1,
+    })
+}
+
+/// k times a number that is not 0.
+fn multiple<F: Field>(field: &F, k: u8, x: F::Elem) -> Result<F::Elem, Range>
+    requires field { F.is_ring field.now }
+    requires factor { 0 < k }
+    requires elem { (F.meaning field.now).is_elem x }
+    requires nonzero { let m = F.meaning field.now in m.value x ≢ m.scalars.ops.zero }
+    ensures elem { IfOk result (F.meaning field.now).is_elem }
+    ensures value { IfOk result (λ y. let m = F.meaning field.now in m.value y ≡ m.scalars.ops.mul (whole_of m.scalars k) (m.value x)) }
+    ensures nonzero { IfOk result (λ y. let m = F.meaning field.now in m.value y ≢ m.scalars.ops.zero) }
+    ensures range { OnRange result (let m = F.meaning field.now in IsWorkHigh 3 m.scalars (product (whole_of m.scalars k) (m.value x))) }
+{
+    field.mul(whole(field, k), x)
+}
+
+/// The coefficient of x^i*y^j*z^l over k times a number that is not 0.
+fn coefficient_over_multiple<F: Field>(
+    field: &F,
+    f: &JetOf<F>,
+    i: u8,
+    j: u8,
+    l: u8,
+    k: u8,
+    divisor: F::Elem,
+) -> Result<F::Elem, Range>
+    requires field { F.is_ring field.now }
+    requires jet { IsJetIn (F.meaning field.now) 3 f.now }
+    requires factor { 0 < k }
+    requires divisor { (F.meaning field.now).is_elem divisor }
+    requires nonzero { let m = F.meaning field.now in m.value divisor ≢ m.scalars.ops.zero }
+    ensures elem { IfOk result (F.meaning field.now).is_elem }
+    ensures value { IfOk result (λ x. let m = F.meaning field.now in m.value x ≡ over m.scalars (coefficient_of m.scalars (poly_of 3 m.value f.now.terms) i j l) (m.scalars.ops.mul (whole_of m.scalars k) (m.value divisor))) }
+    ensures range { OnRange result (let m = F.meaning field.now in
+        Among (IsWorkHigh 3 m.scalars) (over_multiple_work m.scalars 3 k (coefficient_of m.scalars (poly_of 3 m.value f.now.terms) i j l) (m.value divisor))) }
+{
+    let product = multiple(field, k, divisor)?;
+    coefficient_over(field, f, i, j, l, product)
 }
 
 /// The matrix of the last step of a node, after the pair rule: with κ the coefficient of x*y*z, z
@@ -106,4 +156,60 @@ pub fn tangent_third<F: Field>(field: &F, f: &JetOf<F>) -> Result<Matrix<F::Elem
     let divisor = coefficient(field, f, 1, 0, 2);
     let a = coefficient_over(field, f, 0, 0, 3, divisor)?;
     Ok(shear(field, 0, 2, a, field.zero()))
+}
+
+/// The matrix of the last step of a conic with a secant, after the pair rule: with κ the coefficient
+/// of x*y*z, y goes to y - coef(x^2*z)/κ*x and z to z - coef(x^2*y)/κ*x.
+///
+/// Errors: `Range` only where an operation of the two quotients has height 2^120 or more.
+pub fn secant_step<F: Field>(field: &F, f: &JetOf<F>) -> Result<Matrix<F::Elem>, Range>
+    requires field { F.is_ring field.now }
+    requires jet { IsJetIn (F.meaning field.now) 3 f.now }
+    requires nonzero { let m = F.meaning field.now in node_divisor m.scalars (poly_of 3 m.value f.now.terms) ≢ m.scalars.ops.zero }
+    ensures matrix { IfOk result (let m = F.meaning field.now in IsMatrix m (secant_step_of m.scalars (poly_of 3 m.value f.now.terms))) }
+    ensures range { OnRange result (let m = F.meaning field.now in Among (IsWorkHigh 3 m.scalars) ((secant_rule m.scalars).works (poly_of 3 m.value f.now.terms))) }
+{
+    let divisor = coefficient(field, f, 1, 1, 1);
+    let a = coefficient_over(field, f, 2, 0, 1, divisor)?;
+    let b = coefficient_over(field, f, 2, 1, 0, divisor)?;
+    let y = less_row(field, 1, 0, a, field.zero());
+    let z = less_row(field, 2, 0, b, field.zero());
+    Ok([
+        pair_row(field, 0, 1, 2, y, z),
+        pair_row(field, 1, 1, 2, y, z),
+        pair_row(field, 2, 1, 2, y, z),
+    ])
+}
+
+/// The matrix of the second step of a cusp: x goes to x - coef(x^2*z)/(3*coef(x^3))*z.
+///
+/// Errors: `Range` only where an operation of the quotient has height 2^120 or more.
+pub fn cusp_second<F: Field>(field: &F, f: &JetOf<F>) -> Result<Matrix<F::Elem>, Range>
+    requires field { F.is_ring field.now }
+    requires jet { IsJetIn (F.meaning field.now) 3 f.now }
+    requires nonzero { let m = F.meaning field.now in coefficient_of m.scalars (poly_of 3 m.value f.now.terms) 3 0 0 ≢ m.scalars.ops.zero }
+    ensures matrix { IfOk result (let m = F.meaning field.now in IsMatrix m (cusp_second_of m.scalars (poly_of 3 m.value f.now.terms))) }
+    ensures range { OnRange result (let m = F.meaning field.now in let s = m.scalars in let g = poly_of 3 m.value f.now.terms in
+        Among (IsWorkHigh 3 s) (over_multiple_work s 3 3 (coefficient_of s g 2 0 1) (coefficient_of s g 3 0 0))) }
+{
+    let divisor = coefficient(field, f, 3, 0, 0);
+    let a = coefficient_over_multiple(field, f, 2, 0, 1, 3, divisor)?;
+    Ok(shear(field, 0, 2, a, field.zero()))
+}
+
+/// The matrix of the second step of a conic with a tangent: y goes to
+/// y - coef(y*z^2)/(2*coef(y^2*z))*z.
+///
+/// Errors: `Range` only where an operation of the quotient has height 2^120 or more.
+pub fn tangent_second<F: Field>(field: &F, f: &JetOf<F>) -> Result<Matrix<F::Elem>, Range>
+    requires field { F.is_ring field.now }
+    requires jet { IsJetIn (F.meaning field.now) 3 f.now }
+    requires nonzero { let m = F.meaning field.now in coefficient_of m.scalars (poly_of 3 m.value f.now.terms) 0 2 1 ≢ m.scalars.ops.zero }
+    ensures matrix { IfOk result (let m = F.meaning field.now in IsMatrix m (tangent_second_of m.scalars (poly_of 3 m.value f.now.terms))) }
+    ensures range { OnRange result (let m = F.meaning field.now in let s = m.scalars in let g = poly_of 3 m.value f.now.terms in
+        Among (IsWorkHigh 3 s) (over_multiple_work s 3 2 (coefficient_of s g 0 1 2) (coefficient_of s g 0 2 1))) }
+{
+    let divisor = coefficient(field, f, 0, 2, 1);
+    let a = coefficient_over_multiple(field, f, 0, 1, 2, 2, divisor)?;
+    Ok(shear(field, 1, 2, a, field.zero()))
 }
