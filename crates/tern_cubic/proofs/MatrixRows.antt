@@ -1,5 +1,5 @@
 -- Matrices of the program from their rows and entries.
-use Rattle.std.proofs.Common.{◌≡◌, ℕ, zero, suc, ◌≤◌, ◌==◌, if◌then◌else◌, List, [], ◌∷◌, map, get_or, refl, ap, subst, ◌∙◌, arith}
+use Rattle.std.proofs.Common.{◌≡◌, ℕ, zero, suc, ◌≤◌, ◌==◌, if◌then◌else◌, List, [], ◌∷◌, map, get_or, refl, Bool, true, false, ap, ap₂, subst, ◌∙◌, arith}
 use Rattle.std.specs.List.{All}
 use Rattle.std.proofs.lemmas.List.Elements.{All-from_recursion}
 use Rattle.ring_theory.specs.Scalars.{Scalars, Meaning}
@@ -9,9 +9,13 @@ use Rattle.mono_exp.specs.declared.exponent.Exp.{Exp}
 use Rattle.jet_law.specs.Terms.{exp_of, poly_of}
 use Rattle.jet_poly.specs.JetTerms.{JetTerms}
 use Rattle.move_law.specs.Moves.{over, whole}
-use Rattle.ternary_law.specs.Matrices.{Matrix, places, unit_row, two_in_row}
-use Rattle.ternary_law.specs.Steps.{axis_matrix, plane_matrix, first_place, last_place, less_row, shear, node_step, secant_step, cusp_second, cusp_third, tangent_second, tangent_third}
+use Rattle.ternary_law.specs.Matrices.{Matrix, places, unit_row, unit_matrix, with_row, two_in_row}
+use Rattle.ternary_law.specs.Steps.{axis_matrix, plane_matrix, first_place, last_place, less_row, shear, node_step, secant_step, cusp_second, cusp_third, tangent_second, tangent_third, swap_step}
 use Rattle.ternary_law.specs.Cubics.{coef}
+use Rattle.ternary_law.specs.Rules.{swap_work}
+use Rattle.lin_row.specs.Plain.{Among}
+use Rattle.move_law.specs.Shapes.{over_multiple_work}
+use Rattle.move_law.specs.Work.{IsWorkHigh}
 use Rattle.tern_cubic.specs.Matrices.{IsRow, IsMatrix, vector_of, axis_entry_of, pivot_entry_of}
 
 -- x^i y^j z^k in eight variables
@@ -117,20 +121,58 @@ module _ {E V : Type 0} (m : Meaning E V) where
   secant_step_is f r0 r1 r2 h0 h1 h2 = three_rows _ _ _ r0 r1 r2 h0 h1 h2
 
   -- the second step of a cusp
-  pub cusp_second_is : (f : Polynomial 3 V) (k a b : V) (rows : List (List E)) → k ≡ coef m.scalars f 3 0 0
-      → a ≡ over m.scalars (coef m.scalars f 2 0 1) (m.scalars.ops.mul (whole m.scalars 3) k) → b ≡ m.scalars.ops.zero
+  pub cusp_second_is : (f : Polynomial 3 V) (x k a b : V) (rows : List (List E)) → x ≡ coef m.scalars f 2 0 1 → k ≡ coef m.scalars f 3 0 0
+      → a ≡ over m.scalars x (m.scalars.ops.mul (whole m.scalars 3) k) → b ≡ m.scalars.ops.zero
       → IsMatrix m (shear m.scalars 0 2 1 a b) rows → IsMatrix m (cusp_second m.scalars f) rows
   unfolding cusp_second
-  cusp_second_is f k a b rows ek ea eb h =
-      shear_is 0 2 1 a b _ _ rows (ea ∙ ap (λ d. over m.scalars (coef m.scalars f 2 0 1) (m.scalars.ops.mul (whole m.scalars 3) d)) ek) eb h
+  cusp_second_is f x k a b rows ex ek ea eb h =
+      shear_is 0 2 1 a b _ _ rows (ea ∙ ap₂ (λ y d. over m.scalars y (m.scalars.ops.mul (whole m.scalars 3) d)) ex ek) eb h
 
   -- the second step of a conic with a tangent
-  pub tangent_second_is : (f : Polynomial 3 V) (k a b : V) (rows : List (List E)) → k ≡ coef m.scalars f 0 2 1
-      → a ≡ over m.scalars (coef m.scalars f 0 1 2) (m.scalars.ops.mul (whole m.scalars 2) k) → b ≡ m.scalars.ops.zero
+  pub tangent_second_is : (f : Polynomial 3 V) (x k a b : V) (rows : List (List E)) → x ≡ coef m.scalars f 0 1 2 → k ≡ coef m.scalars f 0 2 1
+      → a ≡ over m.scalars x (m.scalars.ops.mul (whole m.scalars 2) k) → b ≡ m.scalars.ops.zero
       → IsMatrix m (shear m.scalars 1 2 0 a b) rows → IsMatrix m (tangent_second m.scalars f) rows
   unfolding tangent_second
-  tangent_second_is f k a b rows ek ea eb h =
-      shear_is 1 2 0 a b _ _ rows (ea ∙ ap (λ d. over m.scalars (coef m.scalars f 0 1 2) (m.scalars.ops.mul (whole m.scalars 2) d)) ek) eb h
+  tangent_second_is f x k a b rows ex ek ea eb h =
+      shear_is 1 2 0 a b _ _ rows (ea ∙ ap₂ (λ y d. over m.scalars y (m.scalars.ops.mul (whole m.scalars 2) d)) ex ek) eb h
+
+  module _ (p : ℕ) (q0 q1 : V) where
+    -- half of q1/q0
+    abbrev pub half : V
+    half = over m.scalars q1 (m.scalars.ops.mul (whole m.scalars 2) q0)
+
+    -- the step of a quadratic form, by whether q0 is 0
+    swapped : Bool → Matrix V
+    swapped t =
+        if t then unit_matrix m.scalars
+        else with_row m.scalars 0 (two_in_row m.scalars 0 (m.scalars.ops.neg half) p m.scalars.ops.one) (with_row m.scalars p (unit_row m.scalars 0) (unit_matrix m.scalars))
+
+    pub unit_swap : (rows : List (List E)) → true ≡ m.scalars.is_zero q0 → IsMatrix m (unit_matrix m.scalars) rows → IsMatrix m (swap_step m.scalars p q0 q1) rows
+    unfolding swap_step swapped
+    unit_swap rows e h = subst (λ t. IsMatrix m (swapped t) rows) e h
+
+    -- row o of the step where q0 is not 0
+    abbrev pub swap_row : ℕ → List V
+    swap_row o =
+        if o == 0 then two_in_row m.scalars 0 (m.scalars.ops.neg half) p m.scalars.ops.one else (if o == p then unit_row m.scalars 0 else unit_row m.scalars o)
+
+    pub other_swap : (r0 r1 r2 : List E) → false ≡ m.scalars.is_zero q0 → IsRow m (swap_row 0) r0 → IsRow m (swap_row 1) r1 → IsRow m (swap_row 2) r2
+        → IsMatrix m (swap_step m.scalars p q0 q1) (r0 ∷ r1 ∷ r2 ∷ [])
+    unfolding swap_step swapped
+    other_swap r0 r1 r2 e h0 h1 h2 = subst (λ t. IsMatrix m (swapped t) (r0 ∷ r1 ∷ r2 ∷ [])) e (three_rows _ _ _ r0 r1 r2 h0 h1 h2)
+
+    pub swap_high : false ≡ m.scalars.is_zero q0 → Among (IsWorkHigh 3 m.scalars) (over_multiple_work m.scalars 3 2 q1 q0) → Among (IsWorkHigh 3 m.scalars) (swap_work m.scalars q0 q1)
+    swap_high e h = subst (λ t. Among (IsWorkHigh 3 m.scalars) (if t then [] else over_multiple_work m.scalars 3 2 q1 q0)) e h
+
+  -- the step of a quadratic form, by what its first two coefficients are
+  pub swap_is : (p : ℕ) (a b c d : V) (rows : List (List E)) → a ≡ c → b ≡ d → IsMatrix m (swap_step m.scalars p a b) rows → IsMatrix m (swap_step m.scalars p c d) rows
+  swap_is p a b c d rows ea eb h =
+      let same : swap_step m.scalars p a b ≡ swap_step m.scalars p c d = λ t. swap_step m.scalars p (ea t) (eb t) in subst (λ w. IsMatrix m w rows) same h
+
+  -- the same of its operations
+  pub swap_work_is : (a b c d : V) → a ≡ c → b ≡ d → Among (IsWorkHigh 3 m.scalars) (swap_work m.scalars a b) → Among (IsWorkHigh 3 m.scalars) (swap_work m.scalars c d)
+  swap_work_is a b c d ea eb h =
+      let same : swap_work m.scalars a b ≡ swap_work m.scalars c d = λ t. swap_work m.scalars (ea t) (eb t) in subst (Among (IsWorkHigh 3 m.scalars)) same h
 
   -- a coefficient of a jet in three variables
   pub coefficient_in_three : (f : JetTerms E) (i j k : ℕ) (x : V) → f.n ≡ 3

@@ -15,4 +15,4 @@ pub use hessian::hessian3;
 pub use kernel::{Kernel, kernel_of, rank_of};
 pub use matrix::{Matrix, axis_matrix, pair_matrix, plane_matrix, shear};
 pub use rows::{partial_rows, product_rows};
-pub use steps::{cusp_second, cusp_third, node_step, secant_step, tangent_second, tangent_third};
+pub use steps::{cusp_first, cusp_second, cusp_third, node_step, secant_step, tangent_first, tangent_second, tangent_third};

@@ -57,6 +57,15 @@ fn partner(p: usize, q: usize, k: usize) -> usize
     if q == 2 { 1 } else { 2 }
 }
 
+/// Whether the element is 0.
+pub(crate) fn is_zero<R: Ring>(ring: &R, x: R::Elem) -> bool
+    requires ring { R.is_ring ring.now }
+    requires elem { (R.meaning ring.now).is_elem x }
+    ensures { let m = R.meaning ring.now in result ≡ m.scalars.is_zero (m.value x) }
+{
+    ring.eq(x, ring.zero())
+}
+
 /// Whether the entry of a vector at a place is 0.
 fn is_zero_at<R: Ring>(ring: &R, v: &[R::Elem], i: usize) -> bool
     requires ring { R.is_ring ring.now }
@@ -64,7 +73,7 @@ fn is_zero_at<R: Ring>(ring: &R, v: &[R::Elem], i: usize) -> bool
     requires inside { i < length v.now }
     ensures { let m = R.meaning ring.now in result ≡ m.scalars.is_zero (vector_of m v.now i) }
 {
-    ring.eq(v[i], ring.zero())
+    is_zero(ring, v[i])
 }
 
 /// The last place where a vector is not 0, or 0.
@@ -228,7 +237,7 @@ fn unit_entry<R: Ring>(ring: &R, i: usize, j: usize) -> R::Elem
 }
 
 /// The row that is 1 at place i and 0 elsewhere.
-fn unit_row<R: Ring>(ring: &R, i: usize) -> [R::Elem; 3]
+pub(crate) fn unit_row<R: Ring>(ring: &R, i: usize) -> [R::Elem; 3]
     requires { R.is_ring ring.now }
     ensures { let m = R.meaning ring.now in IsRow m (unit_row_of m.scalars i) result }
 {
@@ -237,6 +246,14 @@ fn unit_row<R: Ring>(ring: &R, i: usize) -> [R::Elem; 3]
         unit_entry(ring, i, 1),
         unit_entry(ring, i, 2),
     ]
+}
+
+/// The identity matrix.
+pub(crate) fn unit<R: Ring>(ring: &R) -> Matrix<R::Elem>
+    requires { R.is_ring ring.now }
+    ensures { let m = R.meaning ring.now in IsMatrix m (unit_matrix m.scalars) result }
+{
+    [unit_row(ring, 0), unit_row(ring, 1), unit_row(ring, 2)]
 }
 
 /// The given row where o = i, and else row o of the identity matrix.
@@ -319,7 +336,7 @@ fn two_entry<R: Ring>(
 }
 
 /// The row with a at place i, b at place j and 0 elsewhere.
-fn two_in_row<R: Ring>(
+pub(crate) fn two_in_row<R: Ring>(
     ring: &R,
     i: usize,
     a: R::Elem,

@@ -10,11 +10,11 @@ ghost use Rattle.move_law.specs.Moves.{over, whole as whole_of};
 ghost use Rattle.move_law.specs.Shapes.{over_work, over_multiple_work};
 ghost use Rattle.move_law.specs.Work.{IsWorkHigh, product};
 ghost use Rattle.ternary_law.specs.Cubics.{coef as coefficient_of};
-ghost use Rattle.ternary_law.specs.Steps.{node_divisor, node_step as node_step_of, cusp_third_divisor, cusp_third as cusp_third_of, tangent_third_divisor, tangent_third as tangent_third_of, secant_step as secant_step_of, cusp_second as cusp_second_of, tangent_second as tangent_second_of};
-ghost use Rattle.ternary_law.specs.Rules.{node_step as node_rule, secant_step as secant_rule};
+ghost use Rattle.ternary_law.specs.Steps.{node_divisor, node_step as node_step_of, cusp_third_divisor, cusp_third as cusp_third_of, tangent_third_divisor, tangent_third as tangent_third_of, secant_step as secant_step_of, cusp_second as cusp_second_of, tangent_second as tangent_second_of, swap_step as swap_step_of, cusp_first as cusp_first_of, tangent_first as tangent_first_of};
+ghost use Rattle.ternary_law.specs.Rules.{node_step as node_rule, secant_step as secant_rule, swap_work};
 ghost use Rattle.tern_cubic.specs.Matrices.{IsMatrix};
 
-use crate::matrix::{Matrix, less_row, pair_row, quotient, shear};
+use crate::matrix::{Matrix, is_zero, less_row, pair_row, quotient, shear, two_in_row, unit, unit_row};
 use jet_poly::{JetOf, coef};
 use mono_exp::Exp;
 use ring_law::{Field, Frac, Range, Ring};
@@ -83,28 +83,24 @@ fn multiple<F: Field>(field: &F, k: u8, x: F::Elem) -> Result<F::Elem, Range>
     field.mul(whole(field, k), x)
 }
 
-/// The coefficient of x^i*y^j*z^l over k times a number that is not 0.
-fn coefficient_over_multiple<F: Field>(
+/// x / (k*y), where k and y are not 0.
+fn over_multiple<F: Field>(
     field: &F,
-    f: &JetOf<F>,
-    i: u8,
-    j: u8,
-    l: u8,
     k: u8,
-    divisor: F::Elem,
+    x: F::Elem,
+    y: F::Elem,
 ) -> Result<F::Elem, Range>
     requires field { F.is_ring field.now }
-    requires jet { IsJetIn (F.meaning field.now) 3 f.now }
     requires factor { 0 < k }
-    requires divisor { (F.meaning field.now).is_elem divisor }
-    requires nonzero { let m = F.meaning field.now in m.value divisor ≢ m.scalars.ops.zero }
+    requires dividend { (F.meaning field.now).is_elem x }
+    requires divisor { (F.meaning field.now).is_elem y }
+    requires nonzero { let m = F.meaning field.now in m.value y ≢ m.scalars.ops.zero }
     ensures elem { IfOk result (F.meaning field.now).is_elem }
-    ensures value { IfOk result (λ x. let m = F.meaning field.now in m.value x ≡ over m.scalars (coefficient_of m.scalars (poly_of 3 m.value f.now.terms) i j l) (m.scalars.ops.mul (whole_of m.scalars k) (m.value divisor))) }
-    ensures range { OnRange result (let m = F.meaning field.now in
-        Among (IsWorkHigh 3 m.scalars) (over_multiple_work m.scalars 3 k (coefficient_of m.scalars (poly_of 3 m.value f.now.terms) i j l) (m.value divisor))) }
+    ensures value { IfOk result (λ z. let m = F.meaning field.now in m.value z ≡ over m.scalars (m.value x) (m.scalars.ops.mul (whole_of m.scalars k) (m.value y))) }
+    ensures range { OnRange result (let m = F.meaning field.now in Among (IsWorkHigh 3 m.scalars) (over_multiple_work m.scalars 3 k (m.value x) (m.value y))) }
 {
-    let product = multiple(field, k, divisor)?;
-    coefficient_over(field, f, i, j, l, product)
+    let product = multiple(field, k, y)?;
+    quotient(field, x, product)
 }
 
 /// The matrix of the last step of a node, after the pair rule: with κ the coefficient of x*y*z, z
@@ -192,8 +188,9 @@ pub fn cusp_second<F: Field>(field: &F, f: &JetOf<F>) -> Result<Matrix<F::Elem>,
     ensures range { OnRange result (let m = F.meaning field.now in let s = m.scalars in let g = poly_of 3 m.value f.now.terms in
         Among (IsWorkHigh 3 s) (over_multiple_work s 3 3 (coefficient_of s g 2 0 1) (coefficient_of s g 3 0 0))) }
 {
-    let divisor = coefficient(field, f, 3, 0, 0);
-    let a = coefficient_over_multiple(field, f, 2, 0, 1, 3, divisor)?;
+    let x = coefficient(field, f, 2, 0, 1);
+    let y = coefficient(field, f, 3, 0, 0);
+    let a = over_multiple(field, 3, x, y)?;
     Ok(shear(field, 0, 2, a, field.zero()))
 }
 
@@ -209,7 +206,66 @@ pub fn tangent_second<F: Field>(field: &F, f: &JetOf<F>) -> Result<Matrix<F::Ele
     ensures range { OnRange result (let m = F.meaning field.now in let s = m.scalars in let g = poly_of 3 m.value f.now.terms in
         Among (IsWorkHigh 3 s) (over_multiple_work s 3 2 (coefficient_of s g 0 1 2) (coefficient_of s g 0 2 1))) }
 {
-    let divisor = coefficient(field, f, 0, 2, 1);
-    let a = coefficient_over_multiple(field, f, 0, 1, 2, 2, divisor)?;
+    let x = coefficient(field, f, 0, 1, 2);
+    let y = coefficient(field, f, 0, 2, 1);
+    let a = over_multiple(field, 2, x, y)?;
     Ok(shear(field, 1, 2, a, field.zero()))
+}
+
+/// Where q0 is not 0, x goes to x(p) - q1/(2*q0)*x and x(p) to x; else the identity matrix.
+fn swap<F: Field>(
+    field: &F,
+    p: usize,
+    q0: F::Elem,
+    q1: F::Elem,
+) -> Result<Matrix<F::Elem>, Range>
+    requires field { F.is_ring field.now }
+    requires first { (F.meaning field.now).is_elem q0 }
+    requires second { (F.meaning field.now).is_elem q1 }
+    ensures matrix { IfOk result (let m = F.meaning field.now in IsMatrix m (swap_step_of m.scalars p (m.value q0) (m.value q1))) }
+    ensures range { OnRange result (let m = F.meaning field.now in Among (IsWorkHigh 3 m.scalars) (swap_work m.scalars (m.value q0) (m.value q1))) }
+{
+    if is_zero(field, q0) {
+        return Ok(unit(field));
+    }
+    let half = over_multiple(field, 2, q1, q0)?;
+    let x = two_in_row(field, 0, field.neg(half), p, field.one());
+    let y = unit_row(field, 0);
+    Ok([
+        pair_row(field, 0, 0, p, x, y),
+        pair_row(field, 1, 0, p, x, y),
+        pair_row(field, 2, 0, p, x, y),
+    ])
+}
+
+/// The matrix of the first step of a cusp, after the axis rule: that of
+/// y*(q0*x^2 + q1*x*z + q2*z^2), with z.
+///
+/// Errors: `Range` only where an operation of the quotient q1/(2*q0) has height 2^120 or more.
+pub fn cusp_first<F: Field>(field: &F, f: &JetOf<F>) -> Result<Matrix<F::Elem>, Range>
+    requires field { F.is_ring field.now }
+    requires jet { IsJetIn (F.meaning field.now) 3 f.now }
+    ensures matrix { IfOk result (let m = F.meaning field.now in IsMatrix m (cusp_first_of m.scalars (poly_of 3 m.value f.now.terms))) }
+    ensures range { OnRange result (let m = F.meaning field.now in let g = poly_of 3 m.value f.now.terms in
+        Among (IsWorkHigh 3 m.scalars) (swap_work m.scalars (coefficient_of m.scalars g 2 1 0) (coefficient_of m.scalars g 1 1 1))) }
+{
+    let q0 = coefficient(field, f, 2, 1, 0);
+    let q1 = coefficient(field, f, 1, 1, 1);
+    swap(field, 2, q0, q1)
+}
+
+/// The matrix of the first step of a conic with a tangent, after the plane rule: that of
+/// z*(q0*x^2 + q1*x*y + q2*y^2), with y.
+///
+/// Errors: `Range` only where an operation of the quotient q1/(2*q0) has height 2^120 or more.
+pub fn tangent_first<F: Field>(field: &F, f: &JetOf<F>) -> Result<Matrix<F::Elem>, Range>
+    requires field { F.is_ring field.now }
+    requires jet { IsJetIn (F.meaning field.now) 3 f.now }
+    ensures matrix { IfOk result (let m = F.meaning field.now in IsMatrix m (tangent_first_of m.scalars (poly_of 3 m.value f.now.terms))) }
+    ensures range { OnRange result (let m = F.meaning field.now in let g = poly_of 3 m.value f.now.terms in
+        Among (IsWorkHigh 3 m.scalars) (swap_work m.scalars (coefficient_of m.scalars g 2 0 1) (coefficient_of m.scalars g 1 1 1))) }
+{
+    let q0 = coefficient(field, f, 2, 0, 1);
+    let q1 = coefficient(field, f, 1, 1, 1);
+    swap(field, 1, q0, q1)
 }
