@@ -1,8 +1,8 @@
 -- Matrices of the program from their rows and entries.
-use Rattle.std.proofs.Common.{◌≡◌, ℕ, zero, suc, ◌≤◌, ◌==◌, if◌then◌else◌, List, [], ◌∷◌, map, get_or, refl, Bool, true, false, ap, ap₂, subst, ◌∙◌, arith}
+use Rattle.std.proofs.Common.{◌≡◌, ℕ, zero, suc, ◌==◌, if◌then◌else◌, List, [], ◌∷◌, map, get_or, refl, Bool, true, false, ap, ap₂, subst, ◌∙◌, arith}
 use Rattle.std.specs.List.{All}
 use Rattle.std.proofs.lemmas.List.Elements.{All-from_recursion}
-use Rattle.ring_theory.specs.Scalars.{Scalars, Meaning}
+use Rattle.ring_theory.specs.Scalars.{Meaning}
 use Rattle.poly_law.specs.Polynomials.{Polynomial, coefficient_in}
 use Rattle.mono_exp.specs.Exponents.{IsIn}
 use Rattle.mono_exp.specs.declared.exponent.Exp.{Exp}
@@ -16,7 +16,7 @@ use Rattle.ternary_law.specs.Rules.{swap_work}
 use Rattle.lin_row.specs.Plain.{Among}
 use Rattle.move_law.specs.Shapes.{over_multiple_work}
 use Rattle.move_law.specs.Work.{IsWorkHigh}
-use Rattle.tern_cubic.specs.Matrices.{IsRow, IsMatrix, vector_of, axis_entry_of, pivot_entry_of}
+use Rattle.tern_cubic.specs.Matrices.{IsRow, IsMatrix, axis_entry_of, pivot_entry_of}
 
 -- x^i y^j z^k in eight variables
 abbrev pub three_exponents : (i j k : ℕ) → Exp
@@ -66,8 +66,8 @@ module _ {E V : Type 0} (m : Meaning E V) where
   unfolding axis_rows axis_matrix
   axis_matrix_is p j w x y z r0 r1 r2 ej ex ey ez h0 h1 h2 =
       let same : axis_rows p j x y z ≡ axis_matrix m.scalars p w =
-        λ k. axis_rows p (ej k) ((ex ∙ ap (λ d. over m.scalars (w 0) (w d)) ej) k) ((ey ∙ ap (λ d. over m.scalars (w 1) (w d)) ej) k)
-        ((ez ∙ ap (λ d. over m.scalars (w 2) (w d)) ej) k) in
+      λ k. axis_rows p (ej k) ((ex ∙ ap (λ d. over m.scalars (w 0) (w d)) ej) k) ((ey ∙ ap (λ d. over m.scalars (w 1) (w d)) ej) k)
+      ((ez ∙ ap (λ d. over m.scalars (w 2) (w d)) ej) k) in
       subst (λ a. IsMatrix m a (r0 ∷ r1 ∷ r2 ∷ [])) same (three_rows _ _ _ r0 r1 r2 h0 h1 h2)
 
   -- a row with two entries, by what these are

@@ -116,7 +116,11 @@ fn axis_entry<R: Ring>(ring: &R, i: usize, k: usize, p: usize, j: usize, x: R::E
     if k == p {
         return x;
     }
-    if i == partner(p, j, k) { ring.one() } else { ring.zero() }
+    if i == partner(p, j, k) {
+        ring.one()
+    } else {
+        ring.zero()
+    }
 }
 
 /// Row i of the axis rule, with x in the column p.
@@ -265,14 +269,7 @@ fn row_or_unit<R: Ring>(ring: &R, o: usize, i: usize, row: [R::Elem; 3]) -> [R::
 }
 
 /// The entry at place p of the row with 1 at place i, -a at place j and -b at the third place.
-fn less_entry<R: Ring>(
-    ring: &R,
-    i: usize,
-    j: usize,
-    a: R::Elem,
-    b: R::Elem,
-    p: usize,
-) -> R::Elem
+fn less_entry<R: Ring>(ring: &R, i: usize, j: usize, a: R::Elem, b: R::Elem, p: usize) -> R::Elem
     requires ring { R.is_ring ring.now }
     requires first { (R.meaning ring.now).is_elem a }
     requires second { (R.meaning ring.now).is_elem b }
@@ -286,7 +283,13 @@ fn less_entry<R: Ring>(
 }
 
 /// The row with 1 at place i, -a at place j and -b at the third place.
-pub(crate) fn less_row<R: Ring>(ring: &R, i: usize, j: usize, a: R::Elem, b: R::Elem) -> [R::Elem; 3]
+pub(crate) fn less_row<R: Ring>(
+    ring: &R,
+    i: usize,
+    j: usize,
+    a: R::Elem,
+    b: R::Elem,
+) -> [R::Elem; 3]
     requires ring { R.is_ring ring.now }
     requires first { (R.meaning ring.now).is_elem a }
     requires second { (R.meaning ring.now).is_elem b }
@@ -315,14 +318,7 @@ pub fn shear<R: Ring>(ring: &R, i: usize, j: usize, a: R::Elem, b: R::Elem) -> M
 }
 
 /// The entry at place k of the row with a at place i, b at place j and 0 elsewhere.
-fn two_entry<R: Ring>(
-    ring: &R,
-    i: usize,
-    a: R::Elem,
-    j: usize,
-    b: R::Elem,
-    k: usize,
-) -> R::Elem
+fn two_entry<R: Ring>(ring: &R, i: usize, a: R::Elem, j: usize, b: R::Elem, k: usize) -> R::Elem
     requires ring { R.is_ring ring.now }
     requires first { (R.meaning ring.now).is_elem a }
     requires second { (R.meaning ring.now).is_elem b }

@@ -14,7 +14,9 @@ ghost use Rattle.ternary_law.specs.Steps.{node_divisor, node_step as node_step_o
 ghost use Rattle.ternary_law.specs.Rules.{node_step as node_rule, secant_step as secant_rule, swap_work};
 ghost use Rattle.tern_cubic.specs.Matrices.{IsMatrix};
 
-use crate::matrix::{Matrix, is_zero, less_row, pair_row, quotient, shear, two_in_row, unit, unit_row};
+use crate::matrix::{
+    Matrix, is_zero, less_row, pair_row, quotient, shear, two_in_row, unit, unit_row,
+};
 use jet_poly::{JetOf, coef};
 use mono_exp::Exp;
 use ring_law::{Field, Frac, Range, Ring};
@@ -84,12 +86,7 @@ fn multiple<F: Field>(field: &F, k: u8, x: F::Elem) -> Result<F::Elem, Range>
 }
 
 /// x / (k*y), where k and y are not 0.
-fn over_multiple<F: Field>(
-    field: &F,
-    k: u8,
-    x: F::Elem,
-    y: F::Elem,
-) -> Result<F::Elem, Range>
+fn over_multiple<F: Field>(field: &F, k: u8, x: F::Elem, y: F::Elem) -> Result<F::Elem, Range>
     requires field { F.is_ring field.now }
     requires factor { 0 < k }
     requires dividend { (F.meaning field.now).is_elem x }
@@ -213,12 +210,7 @@ pub fn tangent_second<F: Field>(field: &F, f: &JetOf<F>) -> Result<Matrix<F::Ele
 }
 
 /// Where q0 is not 0, x goes to x(p) - q1/(2*q0)*x and x(p) to x; else the identity matrix.
-fn swap<F: Field>(
-    field: &F,
-    p: usize,
-    q0: F::Elem,
-    q1: F::Elem,
-) -> Result<Matrix<F::Elem>, Range>
+fn swap<F: Field>(field: &F, p: usize, q0: F::Elem, q1: F::Elem) -> Result<Matrix<F::Elem>, Range>
     requires field { F.is_ring field.now }
     requires first { (F.meaning field.now).is_elem q0 }
     requires second { (F.meaning field.now).is_elem q1 }

@@ -1,6 +1,4 @@
-use Rattle.std.proofs.Common.{map}
-use Rattle.ternary_law.specs.Matrices.{places}
-use Rattle.tern_cubic.specs.Matrices.{IsRow, vector_of, pivot_entry_of}
+use Rattle.tern_cubic.specs.Matrices.{vector_of, pivot_entry_of}
 use Rattle.tern_cubic.proofs.MatrixRows.{three_entries, plane_matrix_is}
 use Rattle.tern_cubic.proofs.matrix.plane_matrix.Goals as goal
 
@@ -14,6 +12,6 @@ returns-clause-matrix g c =
     let second = c.in_ok-pivot_entry-2 in
     let third = c.in_ok-pivot_entry-3 in
     let pivot = three_entries m entries first.field-0 second.field-0 third.field-0
-      first.ensures.elem second.ensures.elem third.ensures.elem first.ensures.value second.ensures.value third.ensures.value in
+    first.ensures.elem second.ensures.elem third.ensures.elem first.ensures.value second.ensures.value third.ensures.value in
     plane_matrix_is m c.args.p i l c.plane_row.result c.plane_row-2.result c.plane_row-3.result c.first_place-i.ensures.place
     (c.plane_row.ensures entries pivot) (c.plane_row-2.ensures entries pivot) (c.plane_row-3.ensures entries pivot)

@@ -1,4 +1,3 @@
-use Rattle.std.proofs.Common.{sym, ◌∙◌}
 use Rattle.jet_law.specs.Terms.{poly_of}
 use Rattle.tern_cubic.proofs.MatrixRows.{cusp_third_is}
 use Rattle.tern_cubic.proofs.steps.cusp_third.Goals as goal

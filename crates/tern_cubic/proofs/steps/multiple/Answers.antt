@@ -1,4 +1,4 @@
-use Rattle.std.proofs.Common.{◌≢◌, sym, ap, ◌∙◌}
+use Rattle.std.proofs.Common.{sym, ap, ◌∙◌}
 use Rattle.jet_poly.proofs.Steps.{if_ok}
 use Rattle.tern_cubic.proofs.Multiplication.{multiple_nonzero}
 use Rattle.tern_cubic.proofs.steps.multiple.Goals as goal

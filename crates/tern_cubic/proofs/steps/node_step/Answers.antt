@@ -1,4 +1,3 @@
-use Rattle.std.proofs.Common.{sym, ◌∙◌}
 use Rattle.jet_law.specs.Terms.{poly_of}
 use Rattle.tern_cubic.proofs.MatrixRows.{node_step_is}
 use Rattle.tern_cubic.proofs.steps.node_step.Goals as goal
