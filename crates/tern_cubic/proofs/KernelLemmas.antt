@@ -1,5 +1,5 @@
 -- The kernel of rows by the number of vectors of its basis.
-use Rattle.std.proofs.Common.{◌≡◌, ◌≢◌, ℕ, zero, suc, ◌<◌, ◌≤◌, List, [], ◌∷◌, map, length, get_or, refl, sym, ap, ◌∙◌, subst, arith}
+use Rattle.std.proofs.Common.{◌≡◌, ◌≢◌, ℕ, zero, suc, ◌<◌, ◌≤◌, List, [], ◌∷◌, map, length, get_or, refl, sym, ap, subst, arith}
 use Rattle.ring_theory.specs.Rational.{Rational, rational_ops}
 use Rattle.ring_theory.proofs.RationalLaws.{rational_scalar_laws}
 use Rattle.ring_law.specs.Fraction.{rational_meaning}

@@ -1,4 +1,6 @@
 mod Hessians
+pub mod MatrixRows
+mod Multiplication
 mod KernelLemmas
 mod CubicJets
 mod Multiples

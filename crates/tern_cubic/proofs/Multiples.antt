@@ -3,7 +3,7 @@ use Rattle.std.proofs.Common.{◌≡◌, ℕ, zero, suc, ◌+◌, ◌<◌, ◌�
 use Rattle.std.proofs.lemmas.Bool.{cases_lt}
 use Rattle.ring_theory.specs.Ring.{RingOps, IsCommRing}
 use Rattle.poly_law.specs.Sums.{multiple}
-use Rattle.poly_law.specs.Exps.{same, plus, none, lower}
+use Rattle.poly_law.specs.Exps.{same, plus, lower}
 use Rattle.poly_law.specs.ExpList.{ExpList, exps}
 use Rattle.poly_law.specs.Poly.{coefficient, times_term}
 use Rattle.poly_law.specs.Polynomials.{Polynomial, term_in, times_in, derivative_in}

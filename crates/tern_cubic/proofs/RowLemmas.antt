@@ -1,7 +1,7 @@
 -- Rows that are made entry by entry, and one after the other.
 use mathlib.Core.Path.{fun_ext}
 use native.Mathlib.Decide.{dec_lt}
-use Rattle.std.proofs.Common.{◌≡◌, ◌≢◌, ℕ, zero, suc, ◌+◌, ◌<◌, ◌≤◌, false, cond, eqb, ltb, ne_eqb, eq-eqb, List, [], ◌∷◌, ◌++◌, All, map, take, length, get_or, sum, refl, sym, ap, ap₂, subst, ◌∙◌, arith}
+use Rattle.std.proofs.Common.{◌≡◌, ℕ, zero, suc, ◌+◌, ◌<◌, ◌≤◌, false, cond, eqb, ltb, ne_eqb, eq-eqb, List, [], ◌∷◌, ◌++◌, All, map, take, length, get_or, sum, refl, sym, ap, ap₂, subst, ◌∙◌, arith}
 use Rattle.std.proofs.lemmas.Bool.{lt-ltb, le-ltb}
 use Rattle.std.proofs.lemmas.List.{get_or-map, length-map, map-append, take_more}
 use Rattle.ring_theory.specs.Height.{rational_scalars}

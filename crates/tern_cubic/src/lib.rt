@@ -1,14 +1,22 @@
 //! Ternary cubics over the rational numbers: as jets, the Hessian determinant, the rows of their
-//! partials and of the products of these with the quadratic monomials, kernels and ranks of rows.
+//! partials and of the products of these with the quadratic monomials, kernels and ranks of rows,
+//! and the matrices of the steps that bring a cubic to its principal part.
 //! The coefficients of a cubic stand in the monomial order, from `x^3` to `z^3`.
 #![tactic(auto)]
 
 mod cubic;
 mod hessian;
 mod kernel;
+mod matrix;
 mod rows;
+mod steps;
 
 pub use cubic::cubic_jet;
 pub use hessian::hessian3;
 pub use kernel::{Kernel, kernel_of, rank_of};
+pub use matrix::{Matrix, axis_matrix, pair_matrix, plane_matrix, shear};
 pub use rows::{partial_rows, product_rows};
+pub use steps::{
+    cusp_first, cusp_second, cusp_third, node_step, secant_step, tangent_first, tangent_second,
+    tangent_third,
+};

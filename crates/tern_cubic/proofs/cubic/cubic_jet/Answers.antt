@@ -1,4 +1,4 @@
-use Rattle.std.proofs.Common.{◌≡◌, ◌<◌, length, arith, rules}
+use Rattle.std.proofs.Common.{◌≡◌, length, arith, rules}
 use Rattle.tern_cubic.proofs.CubicJets.{ready_more, sum_more, jet_made, cubic_is}
 use Rattle.tern_cubic.proofs.cubic.cubic_jet.Goals as goal
 

@@ -1,4 +1,4 @@
-use Rattle.std.proofs.Common.{◌≡◌, ◌∷◌, [], map, arith, refl}
+use Rattle.std.proofs.Common.{◌∷◌, [], map, arith, refl}
 use Rattle.std.proofs.lemmas.List.Elements.{All-from_recursion}
 use Rattle.ring_law.specs.Fraction.{IsFrac, frac_value}
 use Rattle.ring_law.proofs.Exits.{handed_on}

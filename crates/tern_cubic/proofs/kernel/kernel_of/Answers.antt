@@ -1,4 +1,4 @@
-use Rattle.std.proofs.Common.{◌≡◌, ◌<◌, vec_len, arith}
+use Rattle.std.proofs.Common.{◌≡◌, vec_len, arith}
 use Rattle.lin_row.specs.Rows.{rows_of}
 use Rattle.tern_cubic.proofs.KernelLemmas.{none_left, more_left, one_left, one_of}
 use Rattle.tern_cubic.proofs.kernel.kernel_of.Goals as goal

@@ -1,4 +1,4 @@
-use Rattle.std.proofs.Common.{◌≡◌, ◌∙◌, [], get_or, map, take_all, sym, ap, subst, arith}
+use Rattle.std.proofs.Common.{◌∙◌, [], get_or, map, take_all, sym, ap, subst, arith}
 use Rattle.ring_theory.specs.Rational.{Rational}
 use Rattle.ring_law.specs.Fraction.{frac_value, rational_meaning}
 use Rattle.ring_law.proofs.Exits.{fault_handed_on}

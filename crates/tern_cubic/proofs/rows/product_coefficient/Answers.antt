@@ -1,4 +1,4 @@
-use Rattle.std.proofs.Common.{◌≡◌, false, true, ◌+◌, ◌∙◌, sym, ap, arith}
+use Rattle.std.proofs.Common.{◌≡◌, false, true, ◌∙◌, sym, ap, arith}
 use Rattle.ring_theory.specs.Rational.{rational_ops}
 use Rattle.ring_theory.proofs.RationalLaws.{rational_scalar_laws}
 use Rattle.ring_law.specs.Fraction.{frac_value}

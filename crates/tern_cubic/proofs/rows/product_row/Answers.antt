@@ -1,4 +1,4 @@
-use Rattle.std.proofs.Common.{◌≡◌, ℕ, ◌<◌, ◌≤◌, ◌+◌, ◌∙◌, [], cond, ltb, length, get_or, sym, ap, ap₂, subst, arith}
+use Rattle.std.proofs.Common.{◌≡◌, ℕ, ◌<◌, ◌+◌, ◌∙◌, [], cond, ltb, length, get_or, sym, ap, ap₂, subst, arith}
 use Rattle.ring_theory.specs.Rational.{Rational, rational_ops}
 use Rattle.ring_theory.proofs.RationalLaws.{rational_scalar_laws}
 use Rattle.ring_law.specs.Fraction.{rational_meaning}
