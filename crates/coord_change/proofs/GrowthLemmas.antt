@@ -89,13 +89,17 @@ module _ {E V : Type 0} (m : Meaning E V) (n : ℕ) (l : ScalarLaws m.scalars) w
     where
       t : Exp × E
       t = get_or h.terms i d
+
       inside : All (λ t. IsIn n t.0.e) h.terms
       inside = subst (λ z. All (λ t. IsIn z t.0.e) h.terms) en j.variables
+
       at : ExpList n
       at = exp_of n t.0
+
       stands : coefficient (exps n) ops (poly_of n m.value h.terms) at ≡ m.value t.1
       stands = Reduced.coefficient-reduced (exps n) (exps_are n) ops l.ring (poly_of n m.value h.terms) (Reduced.reduced_of_rising n m.value ops h.terms inside rises j.units) i (at, m.value t.1)
           (subst (λ z. i < z) (sym (length-mapped (λ t. (exp_of n t.0, m.value t.1)) h.terms)) lt) (sym (at-map (λ t. (exp_of n t.0, m.value t.1)) h.terms i t lt (own h.terms i d lt) (at, m.value t.1)))
+
       step : (b : Bool) → eqb (degree (exps n) at) k ≡ b → sum t.0.e ≡ k
       step true e = sym (degree-exp_of n t.0 (inside i d lt)) ∙ eqb-true (degree (exps n) at) k e
       step false e = absurd (j.units i d lt (sym stands ∙ same at ∙ coefficient-component n ops l.ring k f at ∙ ap (λ z. cond z (coefficient (exps n) ops f at) ops.zero) e))

@@ -189,7 +189,15 @@ pub fn grow<R: Ring, L: Ledger>(
     ensures steps { steps.new ≤ steps.old + length chain.old.moves }
 {
     let o = chain.order();
-    let jets = grown_jets(alloc, ring, chain.germ(), chain.moves(), chain.jets(), o, steps)?;
+    let jets = grown_jets(
+        alloc,
+        ring,
+        chain.germ(),
+        chain.moves(),
+        chain.jets(),
+        o,
+        steps,
+    )?;
     chain.set(o + 1, jets);
     Ok(())
 }

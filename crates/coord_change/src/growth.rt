@@ -24,12 +24,7 @@ use std::sync::ledger::Ledger;
 
 /// The terms of a jet of order o, and behind them those of another one, all of degree o + 1: a jet
 /// of that order.
-fn joined<E: Copy>(
-    alloc: Global,
-    lower: &Jet<E>,
-    top: &Jet<E>,
-    o: u8,
-) -> Result<Jet<E>, AllocError>
+fn joined<E: Copy>(alloc: Global, lower: &Jet<E>, top: &Jet<E>, o: u8) -> Result<Jet<E>, AllocError>
     requires order_at_most_16 { o ≤ 16 }
     requires lower { All (λ t. sum t.0.e ≤ o) lower.now.terms }
     requires top { All (λ t. sum t.0.e ≡ o + 1) top.now.terms }

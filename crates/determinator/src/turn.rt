@@ -70,7 +70,15 @@ fn go_on<L: Ledger>(
     if chain.order() < chain.germ().order() {
         return open_searching(alloc, corank, chain, steps);
     }
-    match limited(alloc, names, Algebra::Rational, corank, &chain, functional, at) {
+    match limited(
+        alloc,
+        names,
+        Algebra::Rational,
+        corank,
+        &chain,
+        functional,
+        at,
+    ) {
         Ok(answer) => Ok(Step::Ends(answer)),
         Err(fault) => Err(in_phase(Phase::Finish, fault)),
     }

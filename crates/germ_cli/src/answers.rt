@@ -6,8 +6,8 @@ ghost use Rattle.line_io.specs.Reading.{IsHandedOut};
 ghost use Rattle.std.specs.Prelude.{◌≡◌, ◌≤◌, ◌<◌, ℕ, List, length, IfOk};
 
 use cert_text::{Report, write_report};
-use line_io::{MAX_LINE, Next, is_answered_line};
 use determinator::classify;
+use line_io::{MAX_LINE, Next, is_answered_line};
 use ring_law::NoMemory;
 use std::alloc::Global;
 

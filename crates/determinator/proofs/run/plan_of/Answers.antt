@@ -27,10 +27,10 @@ returns-clause-planned g c =
     let f = c.args.germ.now in
     if_ok {P = IsOverBy c.args.names.now c.in-First.first.corank c.order-last.result 2 c.in-First.first.step} {Q = ArePlanned c.args.names.now f} c.run_from.result
     (λ answer over q is.
-      let begun = subst (IsBegun c.args.names.now f q) c.in-First.is (c.in_ok-begin.ensures.begun q is) in
-      planned_of c.args.names.now f.n f.order q c.in-First.first.corank begun.1 begun.0 answer
-      (subst (λ k. IsOverBy c.args.names.now c.in-First.first.corank k 2 c.in-First.first.step answer) c.order-last.ensures over f.n q (started f.n q) c.requires.names
-      (ahead_of c.args.names.now f.n f.order q c.in-First.first.corank begun.1 c.in-First.first.step begun.2)))
+    let begun = subst (IsBegun c.args.names.now f q) c.in-First.is (c.in_ok-begin.ensures.begun q is) in
+    planned_of c.args.names.now f.n f.order q c.in-First.first.corank begun.1 begun.0 answer
+    (subst (λ k. IsOverBy c.args.names.now c.in-First.first.corank k 2 c.in-First.first.step answer) c.order-last.ensures over f.n q (started f.n q) c.requires.names
+    (ahead_of c.args.names.now f.n f.order q c.in-First.first.corank begun.1 c.in-First.first.step begun.2)))
     c.run_from.ensures.over
 
 pub returns-clause-range : goal.returns-clause-range
@@ -38,8 +38,8 @@ returns-clause-range g c =
     let f = c.args.germ.now in
     on_stop _
     (λ p high q is.
-      let begun = subst (IsBegun c.args.names.now f q) c.in-First.is (c.in_ok-begin.ensures.begun q is) in
-      high_of c.args.names.now f.n f.order q c.in-First.first.corank begun.1 p
-      (subst (λ k. IsHighBy c.args.names.now c.in-First.first.corank k 2 c.in-First.first.step p) c.order-last.ensures high f.n q (started f.n q) c.requires.names
-      (ahead_of c.args.names.now f.n f.order q c.in-First.first.corank begun.1 c.in-First.first.step begun.2)))
+    let begun = subst (IsBegun c.args.names.now f q) c.in-First.is (c.in_ok-begin.ensures.begun q is) in
+    high_of c.args.names.now f.n f.order q c.in-First.first.corank begun.1 p
+    (subst (λ k. IsHighBy c.args.names.now c.in-First.first.corank k 2 c.in-First.first.step p) c.order-last.ensures high f.n q (started f.n q) c.requires.names
+    (ahead_of c.args.names.now f.n f.order q c.in-First.first.corank begun.1 c.in-First.first.step begun.2)))
     c.run_from.ensures.range

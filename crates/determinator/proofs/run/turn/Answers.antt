@@ -32,14 +32,14 @@ pub returns-in-Searching-clause-ahead : goal.returns-in-Searching-clause-ahead
 returns-in-Searching-clause-ahead g c =
     if_ok {P = IsTurnedSearch c.args.corank c.in-Searching.chain c.args.names.now} {Q = IsAheadBy c.args.names.now c.args.corank c.args.last c.args.o c.args.step (suc c.args.o)} c.turn_searching.result
     (λ next turned n germ start are h.
-      searching_turned c.args.names.now n c.args.corank c.args.last germ start are c.args.o c.in-Searching.chain next (subst (IsAhead c.args.names.now n c.args.corank c.args.last germ start c.args.o) c.in-Searching.is h)
-      (λ n o germ moves are place. turned n c.args.last o germ moves are place))
+    searching_turned c.args.names.now n c.args.corank c.args.last germ start are c.args.o c.in-Searching.chain next (subst (IsAhead c.args.names.now n c.args.corank c.args.last germ start c.args.o) c.in-Searching.is h)
+    (λ n o germ moves are place. turned n c.args.last o germ moves are place))
     c.turn_searching.ensures.turned
 
 pub returns-in-Searching-clause-range : goal.returns-in-Searching-clause-range
 returns-in-Searching-clause-range g c =
     on_stop _
     (λ p high n germ start are h.
-      searching_high c.args.names.now n c.args.corank c.args.last germ start p c.args.o c.in-Searching.chain (subst (IsAhead c.args.names.now n c.args.corank c.args.last germ start c.args.o) c.in-Searching.is h)
-      (λ n o germ moves place. high n c.args.last o germ moves place))
+    searching_high c.args.names.now n c.args.corank c.args.last germ start p c.args.o c.in-Searching.chain (subst (IsAhead c.args.names.now n c.args.corank c.args.last germ start c.args.o) c.in-Searching.is h)
+    (λ n o germ moves place. high n c.args.last o germ moves place))
     c.turn_searching.ensures.range

@@ -60,6 +60,6 @@ returns-clause-range g c =
     let not_less = c.if-corank-lt2.false in
     stop_high phases.Finish tt c.in-Err-outside.fault _ c.in_phase-in-Err-outside.ensures c.in-Err-outside.ensures.range _
     (λ high q is.
-      let here = corank_is f c.requires.germ q is d.corank c.in-Ok.ensures.diagonal.corank in
-      high_outside c.args.names.now f.n f.order q d.corank here (many d.corank (omega arith))
-      (high f.n f.order 2 q (first_move f.n q ∷ []) (first_place f q is d.corank here c.in-Ok-start_chain.chain (c.in-Ok-start_chain.ensures.chain q is))))
+    let here = corank_is f c.requires.germ q is d.corank c.in-Ok.ensures.diagonal.corank in
+    high_outside c.args.names.now f.n f.order q d.corank here (many d.corank (omega arith))
+    (high f.n f.order 2 q (first_move f.n q ∷ []) (first_place f q is d.corank here c.in-Ok-start_chain.chain (c.in-Ok-start_chain.ensures.chain q is))))

@@ -89,8 +89,8 @@ returns-in_err-push-clause-range g c =
     let h = c.requires.germ in
     fault_handed_on _ c.from_residual-in_err-push.ensures.1
     (λ high q is.
-      let chain = c.in_ok-chain.ensures.chain f.n f.order (lifted algebras.Rational q) (lifted_low f.n q is.low) (lifted_germ_jet f q is c.in_ok-lifted.lifted (c.in_ok-lifted.ensures.jet f.n f.order _ (germ_jet f q h is))) in
-      high_first f.n q (high f.n f.order 2 16 (lifted algebras.Rational q) [] (first_move f.n q) chain h.order_at_most_16 (c.in_ok-first.ensures.change f.n 16 (first_move f.n q) (move_is f h q is c.args.change.now c.requires.moved))))
+    let chain = c.in_ok-chain.ensures.chain f.n f.order (lifted algebras.Rational q) (lifted_low f.n q is.low) (lifted_germ_jet f q is c.in_ok-lifted.lifted (c.in_ok-lifted.ensures.jet f.n f.order _ (germ_jet f q h is))) in
+    high_first f.n q (high f.n f.order 2 16 (lifted algebras.Rational q) [] (first_move f.n q) chain h.order_at_most_16 (c.in_ok-first.ensures.change f.n 16 (first_move f.n q) (move_is f h q is c.args.change.now c.requires.moved))))
     c.in_err-push.ensures.range
 
 pub returns-clause-chain : goal.returns-clause-chain

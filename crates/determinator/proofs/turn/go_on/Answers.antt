@@ -24,11 +24,11 @@ returns-then-order-clause-turned g c =
     let below = c.if-order.true in
     if_ok {P = IsOpenedNext c.args.corank c.args.chain} {Q = IsTurnedSearch c.args.corank c.args.chain c.args.names.now} c.open_searching.result
     (λ next opened n last o germ moves are place.
-      let at = place.chain_is.order_is in
-      let top = place.chain_is.germ_is.order in
-      goes (omega arith)
-      (TestLemmas.tested_of n c.args.corank last germ algebras.Rational o moves c.args.chain place c.requires.failure.listed (mather.Fails c.args.functional c.args.at) c.requires.failure.answers)
-      (opened c.args.names.now n last o germ moves place))
+    let at = place.chain_is.order_is in
+    let top = place.chain_is.germ_is.order in
+    goes (omega arith)
+    (TestLemmas.tested_of n c.args.corank last germ algebras.Rational o moves c.args.chain place c.requires.failure.listed (mather.Fails c.args.functional c.args.at) c.requires.failure.answers)
+    (opened c.args.names.now n last o germ moves place))
     c.open_searching.ensures.opened
 
 pub returns-then-order-clause-range : goal.returns-then-order-clause-range
@@ -39,11 +39,11 @@ returns-then-order-clause-range g c =
     let below = c.if-order.true in
     on_stop _
     (λ p high n last o germ moves place.
-      let at = place.chain_is.order_is in
-      let top = place.chain_is.germ_is.order in
-      high_in_opening n c.args.corank last germ p o (searching moves) (brought n c.args.corank germ algebras.Rational o moves) (omega arith)
-      (TestLemmas.tested_of n c.args.corank last germ algebras.Rational o moves c.args.chain place c.requires.failure.listed (mather.Fails c.args.functional c.args.at) c.requires.failure.answers)
-      (high n last o germ moves place))
+    let at = place.chain_is.order_is in
+    let top = place.chain_is.germ_is.order in
+    high_in_opening n c.args.corank last germ p o (searching moves) (brought n c.args.corank germ algebras.Rational o moves) (omega arith)
+    (TestLemmas.tested_of n c.args.corank last germ algebras.Rational o moves c.args.chain place c.requires.failure.listed (mather.Fails c.args.functional c.args.at) c.requires.failure.answers)
+    (high n last o germ moves place))
     c.open_searching.ensures.range
 
 pub returns-in-Ok-clause-turned : goal.returns-in-Ok-clause-turned
@@ -69,9 +69,9 @@ returns-clause-range g c =
     let not_below = c.if-order.false in
     stop_high phases.Finish tt c.in-Err.fault _ c.in_phase.ensures c.in-Err.ensures.range _
     (λ high n last o germ moves place.
-      let at = place.chain_is.order_is in
-      let top = place.chain_is.germ_is.order in
-      let within = place.chain_is.order_at_most_last in
-      high_in_stop n c.args.corank last germ phases.Finish o (searching moves) (brought n c.args.corank germ algebras.Rational o moves) (omega arith)
-      (TestLemmas.tested_of n c.args.corank last germ algebras.Rational o moves c.args.chain place c.requires.failure.listed (mather.Fails c.args.functional c.args.at) c.requires.failure.answers)
-      (high n last o germ moves place))
+    let at = place.chain_is.order_is in
+    let top = place.chain_is.germ_is.order in
+    let within = place.chain_is.order_at_most_last in
+    high_in_stop n c.args.corank last germ phases.Finish o (searching moves) (brought n c.args.corank germ algebras.Rational o moves) (omega arith)
+    (TestLemmas.tested_of n c.args.corank last germ algebras.Rational o moves c.args.chain place c.requires.failure.listed (mather.Fails c.args.functional c.args.at) c.requires.failure.answers)
+    (high n last o germ moves place))
