@@ -22,11 +22,15 @@ use Rattle.kill_law.specs.Kill.{letters_of}
 use Rattle.kill_law.specs.Taken.{kill_move}
 use Rattle.kill_table.specs.Divisors.{HasNonzeroDivisors}
 use Rattle.kill_table.specs.Moves.{IsMoveTo, IsMoveHigh}
+use Rattle.coord_change.specs.Moves.{linear_part}
+use Rattle.coord_change.proofs.InverseLemmas
+use Rattle.move_law.specs.Moves.{made}
 use Rattle.move_law.specs.Work as work
 use Rattle.move_law.specs.Work.{Work, IsWorkHigh, composing_work}
 use Rattle.move_law.specs.Finish.{Finishing, begin_finish, kill_of, kills_at, graded_kill}
 use Rattle.rules_corank2.specs.declared.finish_state.Finishing as code
 use Rattle.rules_corank2.specs.Finishes.{IsUnderWay, IsStanding, IsFinishingHigh, IsGradedKillRegular, grades_before, last_grade}
+use Rattle.rules_corank2.proofs.FinishHeights.{linear_same}
 use Rattle.rules_corank2.proofs.FinishMoves.{moved_finding_high, moved_last_high, composing_grows}
 
 -- ---- weights
@@ -111,7 +115,7 @@ module _ {V : Type 0} (n : ℕ) (s : Scalars V) (o : ℕ) where
   kills_form : (p : Part) (grades : List ℕ) (g h : Finishing n V) → g.form ≡ h.form → (kills_at n s o p grades g).form ≡ (kills_at n s o p grades h).form
   kills_form p [] g h e = e
   kills_form p (grade ∷ grades) g h e =
-      kills_form p grades (kill_of n s o p grade g) (kill_of n s o p grade h) (ap (λ f. carry n s o (kill_move n s (letters_of n s p f) p grade f) f) e)
+      kills_form p grades (kill_of n s o p grade g) (kill_of n s o p grade h) (ap (λ f. carry n s o (made n s (kill_move n s (letters_of n s p f) p grade f)) f) e)
 
   -- what is high stays so with further moves
   kill_grows : (p : Part) (grade : ℕ) (g : Finishing n V) → IsFinishingHigh n s o g → IsFinishingHigh n s o (kill_of n s o p grade g)
@@ -167,7 +171,10 @@ module _ {E V : Type 0} (m : Meaning E V) (l : ScalarLaws m.scalars) (n o : ℕ)
     where
       step : IsMoveHigh m.scalars (letters_of n m.scalars p g.form) p n grade g.form → IsFinishingHigh n m.scalars o (kill_of n m.scalars o p grade g)
       step (inl h) = moved_finding_high m l n o g (kill_move n m.scalars (letters_of n m.scalars p g.form) p grade g.form) (work.killed p grade g.form ∷ []) (inl h)
-      step (inr h) = moved_last_high m l n o g (kill_move n m.scalars (letters_of n m.scalars p g.form) p grade g.form) (work.killed p grade g.form ∷ []) (inl h)
+      step (inr h) =
+          moved_last_high m l n o g (kill_move n m.scalars (letters_of n m.scalars p g.form) p grade g.form) (work.killed p grade g.form ∷ []) 
+          (inl (InverseLemmas.high_of_same m.scalars l.ring n (linear_part n m.scalars (kill_move n m.scalars (letters_of n m.scalars p g.form) p grade g.form)) (linear_part n m.scalars (made n m.scalars (kill_move n m.scalars (letters_of n m.scalars p g.form) p grade g.form)))
+          (λ a b x y. sym (linear_same n m.scalars l 16 (omega arith) (kill_move n m.scalars (letters_of n m.scalars p g.form) p grade g.form) a b x y)) h))
 
   -- the kill up to the order
   pub kill_to : (whole c : Change E) → IsMoveTo m n 16 (kill_move n m.scalars (letters_of n m.scalars p f) p grade f) whole → (k : ℕ) → k ≡ o

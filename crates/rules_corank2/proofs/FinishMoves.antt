@@ -23,6 +23,7 @@ use Rattle.coord_change.proofs.Canonicals
 use Rattle.coord_change.proofs.CompositeLemmas
 use Rattle.coord_change.proofs.CompositeLemmas.{composed_to}
 use Rattle.kill_table.specs.Moves.{IsMoveTo}
+use Rattle.move_law.specs.Moves.{made}
 use Rattle.move_law.specs.Work as work
 use Rattle.move_law.specs.Work.{Work, IsWorkHigh, composing_from, composing_work}
 use Rattle.move_law.specs.Finish.{Finishing, with_move}
@@ -127,47 +128,55 @@ among_cases P (x ∷ xs) ys (inr h) = elim (among_cases P xs ys h) [ inl a ↦ i
 
 pub composing_grows : {V : Type 0} (n : ℕ) (s : Scalars V) (o : ℕ) (g : Finishing n V) (move : Move n V) (finding : List (Work n V)) → IsFinishingHigh n s o g → IsFinishingHigh n s o (with_move n s o finding move g)
 composing_grows n s o g move finding high = elim (among_cases (IsWorkHigh n s) g.works (composing_work n s o g.moves) high) [
-  | inl a ↦ among_left (IsWorkHigh n s) (with_move n s o finding move g).works (composing_work n s o (g.moves ++ move ∷ []))
-      (among_left (IsWorkHigh n s) (g.works ++ finding) (work.inverted move ∷ work.carried o move g.form ∷ []) (among_left (IsWorkHigh n s) g.works finding a))
-  | inr b ↦ among_right (IsWorkHigh n s) (with_move n s o finding move g).works (composing_work n s o (g.moves ++ move ∷ [])) (composing_more n s o g.moves move b)
+  | inl a ↦ among_left (IsWorkHigh n s) (with_move n s o finding move g).works (composing_work n s o (g.moves ++ made n s move ∷ []))
+      (among_left (IsWorkHigh n s) (g.works ++ finding) (work.inverted (made n s move) ∷ work.carried o (made n s move) g.form ∷ []) (among_left (IsWorkHigh n s) g.works finding a))
+  | inr b ↦ among_right (IsWorkHigh n s) (with_move n s o finding move g).works (composing_work n s o (g.moves ++ made n s move ∷ [])) (composing_more n s o g.moves (made n s move) b)
 ]
+
+-- a move as it is made, up to a degree of at most 16
+pub made_to : {E V : Type 0} (m : Meaning E V) → ScalarLaws m.scalars → (n o : ℕ) → o ≤ 16 → (move : Move n V) (c : Change E) → IsMoveTo m n o move c → IsMoveTo m n o (made n m.scalars move) c
+made_to {E} {V} m l n o h move c to = subst (λ z. IsMoveExactly m n o z c) (sym (map-jets move)) to
+  where
+    map-jets : (ps : Move n V) → map (jet n m.scalars o) (map (jet n m.scalars 16) ps) ≡ map (jet n m.scalars o) ps
+    map-jets [] = refl
+    map-jets (q ∷ ps) = ap₂ (λ x xs. x ∷ xs) (Canonicals.jet-jet n m.scalars l o 16 h q) (map-jets ps)
 
 -- ---- a finish with a move more
 
 module _ {E V : Type 0} (m : Meaning E V) (l : ScalarLaws m.scalars) (n o : ℕ) (g : Finishing n V) (move : Move n V) (finding : List (Work n V)) where
   -- composing the moves is high
-  pub moved_composing_high : AnyHigh n m.scalars (composing_work n m.scalars o (g.moves ++ move ∷ [])) → IsFinishingHigh n m.scalars o (with_move n m.scalars o finding move g)
-  moved_composing_high high = among_right (IsWorkHigh n m.scalars) (with_move n m.scalars o finding move g).works (composing_work n m.scalars o (g.moves ++ move ∷ [])) high
+  pub moved_composing_high : AnyHigh n m.scalars (composing_work n m.scalars o (g.moves ++ made n m.scalars move ∷ [])) → IsFinishingHigh n m.scalars o (with_move n m.scalars o finding move g)
+  moved_composing_high high = among_right (IsWorkHigh n m.scalars) (with_move n m.scalars o finding move g).works (composing_work n m.scalars o (g.moves ++ made n m.scalars move ∷ [])) high
 
   -- an operation of the finding is
   pub moved_finding_high : AnyHigh n m.scalars finding → IsFinishingHigh n m.scalars o (with_move n m.scalars o finding move g)
   moved_finding_high high =
-      among_left (IsWorkHigh n m.scalars) (with_move n m.scalars o finding move g).works (composing_work n m.scalars o (g.moves ++ move ∷ []))
-      (among_left (IsWorkHigh n m.scalars) (g.works ++ finding) (work.inverted move ∷ work.carried o move g.form ∷ []) (among_right (IsWorkHigh n m.scalars) g.works finding high))
+      among_left (IsWorkHigh n m.scalars) (with_move n m.scalars o finding move g).works (composing_work n m.scalars o (g.moves ++ made n m.scalars move ∷ []))
+      (among_left (IsWorkHigh n m.scalars) (g.works ++ finding) (work.inverted (made n m.scalars move) ∷ work.carried o (made n m.scalars move) g.form ∷ []) (among_right (IsWorkHigh n m.scalars) g.works finding high))
 
   -- the inverse of the linear part, or carrying the jet, is
-  pub moved_last_high : AnyHigh n m.scalars (work.inverted move ∷ work.carried o move g.form ∷ []) → IsFinishingHigh n m.scalars o (with_move n m.scalars o finding move g)
+  pub moved_last_high : AnyHigh n m.scalars (work.inverted (made n m.scalars move) ∷ work.carried o (made n m.scalars move) g.form ∷ []) → IsFinishingHigh n m.scalars o (with_move n m.scalars o finding move g)
   moved_last_high high =
-      among_left (IsWorkHigh n m.scalars) (with_move n m.scalars o finding move g).works (composing_work n m.scalars o (g.moves ++ move ∷ []))
-      (among_right (IsWorkHigh n m.scalars) (g.works ++ finding) (work.inverted move ∷ work.carried o move g.form ∷ []) high)
+      among_left (IsWorkHigh n m.scalars) (with_move n m.scalars o finding move g).works (composing_work n m.scalars o (g.moves ++ made n m.scalars move ∷ []))
+      (among_right (IsWorkHigh n m.scalars) (g.works ++ finding) (work.inverted (made n m.scalars move) ∷ work.carried o (made n m.scalars move) g.form ∷ []) high)
 
-  pub moved_carrying_high : (c : Change E) → IsMoveTo m n o move c → IsCarryHigh n m.scalars o (move_from m n c) g.form → IsFinishingHigh n m.scalars o (with_move n m.scalars o finding move g)
-  moved_carrying_high c to high = moved_last_high (inr (inl (high_truncated n m.scalars l o move g.form (subst (λ z. IsCarryHigh n m.scalars o z g.form) to.parts high))))
+  pub moved_carrying_high : (c : Change E) → IsMoveTo m n o (made n m.scalars move) c → IsCarryHigh n m.scalars o (move_from m n c) g.form → IsFinishingHigh n m.scalars o (with_move n m.scalars o finding move g)
+  moved_carrying_high c to high = moved_last_high (inr (inl (high_truncated n m.scalars l o (made n m.scalars move) g.form (subst (λ z. IsCarryHigh n m.scalars o z g.form) to.parts high))))
 
   -- what the program keeps then
-  pub moved_is : (state next : code.Finishing E) (c d : Change E) → IsUnderWay m n o g state → IsMoveTo m n o move c → IsJetFor m n o (carry n m.scalars o (move_from m n c) g.form) next.form
-      → next.change ≡ Some d → IsMoveExactly m n o (composite n m.scalars o (g.moves ++ move ∷ [])) d → IsUnderWay m n o (with_move n m.scalars o finding move g) next
+  pub moved_is : (state next : code.Finishing E) (c d : Change E) → IsUnderWay m n o g state → IsMoveTo m n o (made n m.scalars move) c → IsJetFor m n o (carry n m.scalars o (move_from m n c) g.form) next.form
+      → next.change ≡ Some d → IsMoveExactly m n o (composite n m.scalars o (g.moves ++ made n m.scalars move ∷ [])) d → IsUnderWay m n o (with_move n m.scalars o finding move g) next
   moved_is state next c d is to jet change exactly = record {
     given = is.given;
     at_most_8_variables = is.at_most_8_variables;
     order_at_least_2 = is.order_at_least_2;
     order_at_most_16 = is.order_at_most_16;
-    form = subst (λ p. IsJetFor m n o p next.form) (ap (λ z. carry n m.scalars o z g.form) to.parts ∙ carry-truncated n m.scalars l o move g.form) jet;
-    change = subst (IsCompositeOf m n o (g.moves ++ move ∷ [])) (sym change) (longer g.moves, exactly);
-    no_constants = all-more (λ mv. HaveNoConstant n m.scalars.ops n (put n m.scalars mv)) g.moves move is.no_constants (low_move m l n o move c to);
+    form = subst (λ p. IsJetFor m n o p next.form) (ap (λ z. carry n m.scalars o z g.form) to.parts ∙ carry-truncated n m.scalars l o (made n m.scalars move) g.form) jet;
+    change = subst (IsCompositeOf m n o (g.moves ++ made n m.scalars move ∷ [])) (sym change) (longer g.moves, exactly);
+    no_constants = all-more (λ mv. HaveNoConstant n m.scalars.ops n (put n m.scalars mv)) g.moves (made n m.scalars move) is.no_constants (low_move m l n o (made n m.scalars move) c to);
   }
     where
-      longer : (ms : List (Move n V)) → 0 < length (ms ++ move ∷ [])
+      longer : (ms : List (Move n V)) → 0 < length (ms ++ made n m.scalars move ∷ [])
       longer [] = omega arith
       longer (x ∷ ms) = omega arith
 
@@ -186,7 +195,10 @@ module _ {E V : Type 0} (m : Meaning E V) (l : ScalarLaws m.scalars) (n k : ℕ)
   composed_fault one high moves move lows of to = composed_high m l n k moves move next to first (subst (IsCompositeOf m n k moves) given of) one lows high
 
 module _ {E V : Type 0} (m : Meaning E V) (l : ScalarLaws m.scalars) (n o : ℕ) (state : code.Finishing E) (c : Change E) (g : Finishing n V) (move : Move n V) (finding : List (Work n V))
-    (is : IsUnderWay m n o g state) (to : IsMoveTo m n o move c) where
+    (is : IsUnderWay m n o g state) (plain : IsMoveTo m n o move c) where
+  to : IsMoveTo m n o (made n m.scalars move) c
+  to = made_to m l n o is.order_at_most_16 move c plain
+
   -- carrying the jet is high
   pub carry_fault : (k : ℕ) → k ≡ o → c.n ≡ n → IsSubstHigh (exps c.n) (exps c.n) m.scalars k (part_of c.n m.value c.parts) (poly_of c.n m.value state.form.terms) → IsFinishingHigh n m.scalars o (with_move n m.scalars o finding move g)
   carry_fault k e en high =
@@ -199,14 +211,14 @@ module _ {E V : Type 0} (m : Meaning E V) (l : ScalarLaws m.scalars) (n o : ℕ)
   -- the state with the carried jet and the composite
   pub moved_ok : (k : ℕ) → k ≡ o → c.n ≡ n → (h : JetTerms E) → IsJet m h → h.n ≡ c.n → h.order ≡ k → IsRising h.terms
       → SameIn c.n m.scalars.ops (poly_of c.n m.value h.terms) (cut_in c.n m.scalars.ops k (substitute c.n c.n m.scalars.ops (part_of c.n m.value c.parts) (poly_of c.n m.value state.form.terms)))
-      → (d : Change E) → IsMoveExactly m n k (composite n m.scalars k (g.moves ++ move ∷ [])) d → IsUnderWay m n o (with_move n m.scalars o finding move g) (record { change = Some d; form = h })
+      → (d : Change E) → IsMoveExactly m n k (composite n m.scalars k (g.moves ++ made n m.scalars move ∷ [])) d → IsUnderWay m n o (with_move n m.scalars o finding move g) (record { change = Some d; form = h })
   moved_ok k e en h j eh eo rises value d exactly =
       moved_is m l n o g move finding state (record { change = Some d; form = h }) c d is to
       (subst (λ f. IsJetFor m n o (carry n m.scalars o (move_from m n c) f) h) is.form.polynomial
       (subst (λ z. IsJetFor m n z (carry n m.scalars z (move_from m n c) (poly_of n m.value state.form.terms)) h) e
       (Canonicals.carried_for m n l k c (poly_of n m.value state.form.terms) h j (eh ∙ en) eo rises
       (subst (λ z. SameIn z m.scalars.ops (poly_of z m.value h.terms) (cut_in z m.scalars.ops k (substitute z z m.scalars.ops (part_of z m.value c.parts) (poly_of z m.value state.form.terms)))) en value))))
-      refl (subst (λ z. IsMoveExactly m n z (composite n m.scalars z (g.moves ++ move ∷ [])) d) e exactly)
+      refl (subst (λ z. IsMoveExactly m n z (composite n m.scalars z (g.moves ++ made n m.scalars move ∷ [])) d) e exactly)
 
   -- composing the moves is high
   pub composing_fault : (k : ℕ) → k ≡ o → (h : ℕ) → h ≡ n
@@ -217,12 +229,12 @@ module _ {E V : Type 0} (m : Meaning E V) (l : ScalarLaws m.scalars) (n o : ℕ)
       (subst (λ z. (moves : List (Move z V)) (mv : Move z V) → All (λ w. HaveNoConstant z m.scalars.ops z (put z m.scalars w)) moves → IsCompositeOf m z o moves state.change → IsMoveTo m z o mv c
       → AnyHigh z m.scalars (composing_work z m.scalars o (moves ++ mv ∷ []))) eh
       (subst (λ z. (moves : List (Move h V)) (mv : Move h V) → All (λ w. HaveNoConstant h m.scalars.ops h (put h m.scalars w)) moves → IsCompositeOf m h z moves state.change → IsMoveTo m h z mv c
-      → AnyHigh h m.scalars (composing_work h m.scalars z (moves ++ mv ∷ []))) e f) g.moves move is.no_constants is.change to)
+      → AnyHigh h m.scalars (composing_work h m.scalars z (moves ++ mv ∷ []))) e f) g.moves (made n m.scalars move) is.no_constants is.change to)
 
   -- the composite with the move
   pub composing_ok : (k : ℕ) → k ≡ o → (h : ℕ) → h ≡ n → (d : Change E)
       → ((moves : List (Move h V)) (mv : Move h V) → IsCompositeOf m h k moves state.change → IsMoveTo m h k mv c → IsMoveExactly m h k (composite h m.scalars k (moves ++ mv ∷ [])) d)
-      → IsMoveExactly m n k (composite n m.scalars k (g.moves ++ move ∷ [])) d
+      → IsMoveExactly m n k (composite n m.scalars k (g.moves ++ made n m.scalars move ∷ [])) d
   composing_ok k e h eh d f =
-      subst (λ z. (moves : List (Move z V)) (mv : Move z V) → IsCompositeOf m z k moves state.change → IsMoveTo m z k mv c → IsMoveExactly m z k (composite z m.scalars k (moves ++ mv ∷ [])) d) eh f g.moves move
-      (subst (λ z. IsCompositeOf m n z g.moves state.change) (sym e) is.change) (subst (λ z. IsMoveTo m n z move c) (sym e) to)
+      subst (λ z. (moves : List (Move z V)) (mv : Move z V) → IsCompositeOf m z k moves state.change → IsMoveTo m z k mv c → IsMoveExactly m z k (composite z m.scalars k (moves ++ mv ∷ [])) d) eh f g.moves (made n m.scalars move)
+      (subst (λ z. IsCompositeOf m n z g.moves state.change) (sym e) is.change) (subst (λ z. IsMoveTo m n z (made n m.scalars move) c) (sym e) to)
