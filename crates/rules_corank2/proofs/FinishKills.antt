@@ -172,7 +172,7 @@ module _ {E V : Type 0} (m : Meaning E V) (l : ScalarLaws m.scalars) (n o : ℕ)
       step : IsMoveHigh m.scalars (letters_of n m.scalars p g.form) p n grade g.form → IsFinishingHigh n m.scalars o (kill_of n m.scalars o p grade g)
       step (inl h) = moved_finding_high m l n o g (kill_move n m.scalars (letters_of n m.scalars p g.form) p grade g.form) (work.killed p grade g.form ∷ []) (inl h)
       step (inr h) =
-          moved_last_high m l n o g (kill_move n m.scalars (letters_of n m.scalars p g.form) p grade g.form) (work.killed p grade g.form ∷ []) 
+          moved_last_high m l n o g (kill_move n m.scalars (letters_of n m.scalars p g.form) p grade g.form) (work.killed p grade g.form ∷ [])
           (inl (InverseLemmas.high_of_same m.scalars l.ring n (linear_part n m.scalars (kill_move n m.scalars (letters_of n m.scalars p g.form) p grade g.form)) (linear_part n m.scalars (made n m.scalars (kill_move n m.scalars (letters_of n m.scalars p g.form) p grade g.form)))
           (λ a b x y. sym (linear_same n m.scalars l 16 (omega arith) (kill_move n m.scalars (letters_of n m.scalars p g.form) p grade g.form) a b x y)) h))
 
