@@ -1,0 +1,5 @@
+pub mod FinishHeights
+pub mod FinishMoves
+pub mod FinishKills
+pub mod FinishChoices
+pub mod FinishPuts
