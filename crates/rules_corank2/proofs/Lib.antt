@@ -1,5 +1,8 @@
-pub mod FinishHeights
-pub mod FinishMoves
-pub mod FinishKills
+mod Divisors
+mod MadeMoves
+mod Pairs
 pub mod FinishChoices
+pub mod FinishHeights
+pub mod FinishKills
+pub mod FinishMoves
 pub mod FinishPuts

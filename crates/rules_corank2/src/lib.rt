@@ -1,12 +1,16 @@
-//! The rules for two residual variables: the pieces of the finish.
+//! The rules for two residual variables: the base kill and the patterns of a part, and the pieces of its finish.
 #![tactic(auto)]
 
+mod extend;
 mod finish_choice;
 mod finish_kills;
 mod finish_moves;
 mod finish_state;
+mod pattern;
 
+pub use extend::extend2;
 pub use finish_choice::{Choice, at, choices, first_choice, least, power_at};
 pub use finish_kills::graded_kill;
 pub use finish_moves::{multiple, over, putting, variable};
 pub use finish_state::{Finishing, moved};
+pub use pattern::pattern_of2;
