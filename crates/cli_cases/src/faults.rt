@@ -13,10 +13,11 @@ const INPUT: &[u8] = b"[y] 3*y\n\n# note\r\nx*y\r\n[z] z";
 
 const FIRST: &[u8] = b"germ [y] 3*y\nanswer not-critical y\nend\n";
 
-const BOTH: &[u8] = b"germ [y] 3*y\nanswer not-critical y\nend\ngerm x*y\nanswer unbuilt\nend\n";
+const BOTH: &[u8] =
+    b"germ [y] 3*y\nanswer not-critical y\nend\ngerm x*y\nanswer named A1\norder 2\nalgebra Q\ncorank 0\nchange\nx = u1-1/2*u2\ny = u1+1/2*u2\ninverse\n1/2 1/2\n-1 1\nform u1^2-1/4*u2^2\nunits 2\n1 1\n-1/4 -4\nmodulus none\nmilnor 1\nmather 0\nbasis 1\ntable 1\n1 = 1 :\nend\n";
 
 const ALL: &[u8] =
-    b"germ [y] 3*y\nanswer not-critical y\nend\ngerm x*y\nanswer unbuilt\nend\ngerm [z] z\nanswer not-critical z\nend\n";
+    b"germ [y] 3*y\nanswer not-critical y\nend\ngerm x*y\nanswer named A1\norder 2\nalgebra Q\ncorank 0\nchange\nx = u1-1/2*u2\ny = u1+1/2*u2\ninverse\n1/2 1/2\n-1 1\nform u1^2-1/4*u2^2\nunits 2\n1 1\n-1/4 -4\nmodulus none\nmilnor 1\nmather 0\nbasis 1\ntable 1\n1 = 1 :\nend\ngerm [z] z\nanswer not-critical z\nend\n";
 
 // What is written where the source failed after so many bytes.
 fn written_after(bytes: u64) -> &'static [u8] {

@@ -1,5 +1,5 @@
-//! Rows: what is written for an input, byte for byte, and which words are answered by the usage line. The reports are written by
-//! hand from the rule that `c*x^m` is A(m-1).
+//! Rows: what is written for an input, byte for byte, and which words are answered by the usage line. The reports are those of the
+//! description of the format, or written by hand from the rule that `c*x^m` is A(m-1).
 use crate::words_of;
 use germ_cli::{Command, Status, read_words, run};
 use line_io::{MemSink, MemSource};
@@ -18,14 +18,14 @@ const MORSE: &[u8] =
 const MIXED: &[u8] = b"[y] 3*y\n\n# note\r\nx*y\r\n[z] z";
 
 const MIXED_TEXT: &[u8] =
-    b"germ [y] 3*y\nanswer not-critical y\nend\ngerm x*y\nanswer unbuilt\nend\ngerm [z] z\nanswer not-critical z\nend\n";
+    b"germ [y] 3*y\nanswer not-critical y\nend\ngerm x*y\nanswer named A1\norder 2\nalgebra Q\ncorank 0\nchange\nx = u1-1/2*u2\ny = u1+1/2*u2\ninverse\n1/2 1/2\n-1 1\nform u1^2-1/4*u2^2\nunits 2\n1 1\n-1/4 -4\nmodulus none\nmilnor 1\nmather 0\nbasis 1\ntable 1\n1 = 1 :\nend\ngerm [z] z\nanswer not-critical z\nend\n";
 
 // The texts of the next lines are those of another program, which was written from the definitions alone.
 const WHOLE: &[u8] =
     b"x^2+1000000000000000000*x^3\n2^200*x^2\nx^^2\nx^2+y^2\n99*999999999999999999^2*x^5\nx^999999999999999999\n";
 
 const WHOLE_TEXT: &[u8] =
-    b"germ x^2+1000000000000000000*x^3\nanswer literal 5\nend\ngerm 2^200*x^2\nanswer range line\nend\ngerm x^^2\nanswer syntax 3 byte\nend\ngerm x^2+y^2\nanswer unbuilt\nend\ngerm 99*999999999999999999^2*x^5\nanswer range mather\nend\ngerm x^999999999999999999\nanswer limit\norder 12\nalgebra Q\ncorank 1\nchange\nx = u1\ninverse\n1\njet 0\nfunctional u1^13 1\nu1^13 1\nend\n";
+    b"germ x^2+1000000000000000000*x^3\nanswer literal 5\nend\ngerm 2^200*x^2\nanswer range line\nend\ngerm x^^2\nanswer syntax 3 byte\nend\ngerm x^2+y^2\nanswer named A1\norder 2\nalgebra Q\ncorank 0\nchange\nx = u1\ny = u2\ninverse\n1 0\n0 1\nform u1^2+u2^2\nunits 2\n1 1\n1 1\nmodulus none\nmilnor 1\nmather 0\nbasis 1\ntable 1\n1 = 1 :\nend\ngerm 99*999999999999999999^2*x^5\nanswer range mather\nend\ngerm x^999999999999999999\nanswer limit\norder 12\nalgebra Q\ncorank 1\nchange\nx = u1\ninverse\n1\njet 0\nfunctional u1^13 1\nu1^13 1\nend\n";
 
 const USAGE: &[u8] = b"usage: germ classify [K] | check | make START COUNT | table\n";
 
