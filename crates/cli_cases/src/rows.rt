@@ -1,4 +1,4 @@
-//! Rows: what is written for an input, byte for byte, and which words are answered by the usage line. The reports are those of the
+//! Rows: what is written for an input, byte for byte, which words are answered by the table and which by the usage line. The reports are those of the
 //! description of the format, or written by hand from the rule that `c*x^m` is A(m-1).
 use crate::words_of;
 use germ_cli::{Command, Status, read_words, run};
@@ -28,6 +28,9 @@ const WHOLE_TEXT: &[u8] =
     b"germ x^2+1000000000000000000*x^3\nanswer literal 5\nend\ngerm 2^200*x^2\nanswer range line\nend\ngerm x^^2\nanswer syntax 3 byte\nend\ngerm x^2+y^2\nanswer named A1\norder 2\nalgebra Q\ncorank 0\nchange\nx = u1\ny = u2\ninverse\n1 0\n0 1\nform u1^2+u2^2\nunits 2\n1 1\n1 1\nmodulus none\nmilnor 1\nmather 0\nbasis 1\ntable 1\n1 = 1 :\nend\ngerm 99*999999999999999999^2*x^5\nanswer range mather\nend\ngerm x^999999999999999999\nanswer limit\norder 12\nalgebra Q\ncorank 1\nchange\nx = u1\ninverse\n1\njet 0\nfunctional u1^13 1\nu1^13 1\nend\n";
 
 const USAGE: &[u8] = b"usage: germ classify [K] | check | make START COUNT | table\n";
+
+const TABLE: &[u8] =
+    b"A(m) u1^(m+1)\nD(m) u1^2*u2+u2^(m-1)\nE6 u1^3+u2^4\nE7 u1^3+u1*u2^3\nE8 u1^3+u2^5\nP8 cubic(u1,u2,u3)\nX9 quartic(u1,u2)\nJ10 u1^3+u1*u2^4+u2^6\nT(2,3,r) u1^3+u1^2*u2^2+u2^r\nT(2,4,r) u1^4+u1^2*u2^2+u2^r\nT(2,q,r) u1^2*u2^2+u1^q+u2^r\nT(p,q,r) u1*u2*u3+u1^p+u2^q+u3^r\nE12 u1^3+u2^7+u1*u2^5\nE13 u1^3+u1*u2^5+u2^8\nE14 u1^3+u2^8+u1*u2^6\nZ11 u1^3*u2+u2^5+u1*u2^4\nZ12 u1^3*u2+u1*u2^4+u1^2*u2^3\nZ13 u1^3*u2+u2^6+u1*u2^5\nW12 u1^4+u2^5+u1^2*u2^3\nW13 u1^4+u1*u2^4+u2^6\nQ10 u1^3+u2*u3^2+u2^4+u1*u2^3\nQ11 u1^3+u2*u3^2+u1*u2^3+u2^5\nQ12 u1^3+u2*u3^2+u2^5+u1*u2^4\nS11 u2^2*u3+u1*u3^2+u1^4+u1^3*u3\nS12 u2^2*u3+u1*u3^2+u1^3*u2+u1^5\nU12 u1^3+u2^3+u3^4+u1*u2*u3^2\n";
 
 #[test]
 fn one_report_for_each_answered_line(rt: HostRuntime) -> Result<(), Fail> {
@@ -113,6 +116,8 @@ fn words_are_read(rt: HostRuntime) -> Result<(), Fail> {
     assert_eq!(rt; read_words(&alone), Some(Command::Classify { limit: 12 }));
     let check = words_of(rt.alloc(), &["check"])?;
     assert_eq!(rt; read_words(&check), Some(Command::Check));
+    let table = words_of(rt.alloc(), &["table"])?;
+    assert_eq!(rt; read_words(&table), Some(Command::Table));
     let three = words_of(rt.alloc(), &["classify", "7", "7"])?;
     assert_eq!(rt; read_words(&three), None);
     Ok(())
@@ -120,19 +125,20 @@ fn words_are_read(rt: HostRuntime) -> Result<(), Fail> {
 
 // The source would fail at its first call.
 #[test]
-fn other_words_are_answered_before_any_read(rt: HostRuntime) -> Result<(), Fail> {
-    for words in [
-        ["table"].as_slice(),
-        &["check", "12"],
-        &["classify", "17"],
-        &[],
+fn the_table_and_other_words_are_answered_before_any_read(rt: HostRuntime) -> Result<(), Fail> {
+    for (words, wanted, text) in [
+        (["table"].as_slice(), Status::Done, TABLE),
+        (&["table", "12"], Status::Usage, USAGE),
+        (&["check", "12"], Status::Usage, USAGE),
+        (&["classify", "17"], Status::Usage, USAGE),
+        (&[], Status::Usage, USAGE),
     ] {
         let words = words_of(rt.alloc(), words)?;
         let mut source = MemSource::new(rt.alloc(), MIXED, 5, &[1]).map_err(|_| MEMORY)?;
         let mut sink = MemSink::new(rt.alloc(), ROOM, 7, &[]).map_err(|_| MEMORY)?;
         let status = run(rt.alloc(), &words, &mut source, &mut sink);
-        assert_eq!(rt; status, Status::Usage);
-        assert_eq!(rt; sink.bytes(), USAGE);
+        assert_eq!(rt; status, wanted);
+        assert_eq!(rt; sink.bytes(), text);
     }
     Ok(())
 }

@@ -1,12 +1,14 @@
 -- Words that ask for a command.
 use Rattle.germ_cli.specs.Checking.{Checks}
-use Rattle.germ_cli.specs.Run.{Classifies, TakesWithin}
+use Rattle.germ_cli.specs.Run.{Classifies, IsUntouched, TakesWithin, WroteTable}
 use Rattle.germ_cli.specs.Words.{AsksFor, IsLimit, IsWithinLimits, input_limit_of}
 use Rattle.germ_cli.specs.declared.command.Command.TheVariants as commands
 use Rattle.germ_cli.specs.declared.command.Command.{Command}
+use Rattle.germ_cli.specs.declared.status.Status.TheVariants as statuses
 use Rattle.germ_cli.specs.declared.status.Status.{Status}
+use Rattle.std.specs.Io.KnownBytes.{Consumes, Keeps}
 use Rattle.std.specs.declared.option.Option.{Option}
-use Rattle.std.proofs.Common.{◌≡◌, ℕ, ◌<◌, ◌≤◌, true, List, [], ◌∷◌, length, get_or, map, ap, ap₂, arith, inl, inr, refl, subst, sym, ◌∙◌}
+use Rattle.std.proofs.Common.{◌≡◌, ℕ, ◌<◌, ◌≤◌, true, None, Some, List, [], ◌∷◌, length, get_or, map, ap, ap₂, arith, inl, inr, refl, subst, sym, ◌∙◌}
 use Rattle.std.proofs.lemmas.Fmt.{decimal_injective}
 use Rattle.std.proofs.lemmas.Slice.Eq.{bytes_eq-Decides}
 use Rattle.std.specs.Prelude.{bytes_eq, decimal}
@@ -60,12 +62,26 @@ not_check : {A : Type 0} (words : List (List ℕ)) (limit : ℕ) → AsksFor wor
 not_check words limit (inl p) q = let n : 5 ≡ 8 = ap (λ (x : List (List ℕ)). length (get_or x 0 [])) (sym q ∙ p.0) in absurd (omega (arith, n))
 not_check words limit (inr p) q = one_of words _ _ _ q p.0
 
+-- no words ask for both a classification and the table
+not_table : {A : Type 0} (words : List (List ℕ)) (limit : ℕ) → AsksFor words (commands.Classify limit) → AsksFor words commands.Table → A
+not_table words limit (inl p) q = let n : 5 ≡ 8 = ap (λ (x : List (List ℕ)). length (get_or x 0 [])) (sym q ∙ p.0) in absurd (omega (arith, n))
+not_table words limit (inr p) q = one_of words _ _ _ q p.0
+
+-- no words ask for both a check and the table
+check_or_table : {A : Type 0} (words : List (List ℕ)) → AsksFor words commands.Check → AsksFor words commands.Table → A
+check_or_table words p q = let n : 99 ≡ 116 = ap (λ (x : List (List ℕ)). get_or (get_or x 0 []) 0 0) (sym p ∙ q) in absurd (omega (arith, n))
+
 -- words ask for one command
 pub one_command : (words : List (List ℕ)) (c d : Command) → AsksFor words c → AsksFor words d → c ≡ d
 one_command words (commands.Classify m) (commands.Classify n) p q = ap (λ (k : ℕ). commands.Classify k) (one_limit words m n p q)
 one_command words (commands.Classify m) commands.Check p q = not_check words m p q
 one_command words commands.Check (commands.Classify n) p q = not_check words n q p
 one_command words commands.Check commands.Check p q = refl
+one_command words (commands.Classify m) commands.Table p q = not_table words m p q
+one_command words commands.Table (commands.Classify n) p q = not_table words n q p
+one_command words commands.Check commands.Table p q = check_or_table words p q
+one_command words commands.Table commands.Check p q = check_or_table words q p
+one_command words commands.Table commands.Table p q = refl
 
 -- words that ask for a classification do not ask for a check
 pub no_check : (words : List (List ℕ)) (command : Command) (limit : ℕ) → AsksFor words command → AsksFor words (commands.Classify limit) → command ≡ commands.Check → ⊥
@@ -76,9 +92,25 @@ pub asked_within : (words : List (List ℕ)) (command : Command) → AsksFor wor
 asked_within words (commands.Classify limit) (inl usual) = let twelve : limit ≡ 12 = usual.1 in record { low = omega arith; high = omega arith }
 asked_within words (commands.Classify limit) (inr named) = named.1
 asked_within words commands.Check asked = tt
+asked_within words commands.Table asked = tt
+
+-- of what is kept nothing was taken
+takes_nothing : (left after : Option (List ℕ)) → Keeps left after → Consumes left after []
+takes_nothing None after kept = kept
+takes_nothing (Some input) None kept = kept
+takes_nothing (Some input) (Some rest) kept = sym kept
+
+-- a run that writes the table does not end at the limit of the input
+no_limit : {A : Type 0} (old new : Option (List ℕ)) (status : Status) → WroteTable old new status → status ≡ statuses.InputLimit → A
+no_limit old new status (inl done) e = absurd (let other : statuses.InputLimit ≡ statuses.Done = sym e ∙ done.0 in cc)
+no_limit old new status (inr failed) e = absurd (let other : statuses.InputLimit ≡ statuses.WriteFault = sym e ∙ failed.0 in cc)
 
 -- how much a run took
-pub within_of : (command : Command) (left after old new : Option (List ℕ)) (status : Status) → ((limit : ℕ) → command ≡ commands.Classify limit → Classifies limit left after old new status)
-    → (command ≡ commands.Check → Checks left after old new status) → TakesWithin (input_limit_of command) left after status
-within_of (commands.Classify limit) left after old new status classifies checks = (classifies limit refl).within
-within_of commands.Check left after old new status classifies checks = (checks refl).within
+pub within_of : (command : Command) (left after old new : Option (List ℕ)) (before now : ℕ) (status : Status) → ((limit : ℕ) → command ≡ commands.Classify limit → Classifies limit left after old new status)
+    → (command ≡ commands.Check → Checks left after old new status) → (command ≡ commands.Table → WroteTable old new status × IsUntouched left after before now)
+    → TakesWithin (input_limit_of command) left after status
+within_of (commands.Classify limit) left after old new before now status classifies checks tells = (classifies limit refl).within
+within_of commands.Check left after old new before now status classifies checks tells = (checks refl).within
+within_of commands.Table left after old new before now status classifies checks tells =
+    let told = tells refl in
+    record { taken = []; read = takes_nothing left after told.1.unread; limit = (λ e. no_limit old new status told.0 e, λ more. absurd (omega (arith, more))) }

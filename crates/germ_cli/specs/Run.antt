@@ -8,7 +8,7 @@ use Rattle.line_io.specs.Bytes.{AppendsPart, ReadsWhole}
 use Rattle.line_io.specs.Lines.{answered_lines, ended_lines}
 use Rattle.line_io.specs.declared.next.Next.TheVariants as nexts
 use Rattle.line_io.specs.declared.next.Next.{Next}
-use Rattle.std.specs.Io.KnownBytes.{Appends, Consumes}
+use Rattle.std.specs.Io.KnownBytes.{Appends, Consumes, Keeps}
 use Rattle.std.specs.List.{AllZip}
 use Rattle.std.specs.Prelude.{◌≡◌, ◌⊎◌, ◌↔◌, ℕ, ◌-◌, ◌^◌, ◌<◌, ◌≤◌, List, ◌++◌, length, take, flat_map, IfSome, None, Some, codes}
 use Rattle.std.specs.declared.option.Option.{Option}
@@ -25,10 +25,34 @@ exit_status statuses.InputLimit = 6
 abbrev pub usage_line : List ℕ
 usage_line = codes "usage: germ classify [K] | check | make START COUNT | table\n"
 
--- the usage line was written, or a write failed before its end
+-- the families of the list with their normal forms, one a line
+abbrev pub table_text : List ℕ
+table_text =
+    codes "A(m) u1^(m+1)\nD(m) u1^2*u2+u2^(m-1)\nE6 u1^3+u2^4\nE7 u1^3+u1*u2^3\n"
+    ++ codes "E8 u1^3+u2^5\nP8 cubic(u1,u2,u3)\nX9 quartic(u1,u2)\nJ10 u1^3+u1*u2^4+u2^6\n"
+    ++ codes "T(2,3,r) u1^3+u1^2*u2^2+u2^r\nT(2,4,r) u1^4+u1^2*u2^2+u2^r\nT(2,q,r) u1^2*u2^2+u1^q+u2^r\nT(p,q,r) u1*u2*u3+u1^p+u2^q+u3^r\n"
+    ++ codes "E12 u1^3+u2^7+u1*u2^5\nE13 u1^3+u1*u2^5+u2^8\nE14 u1^3+u2^8+u1*u2^6\nZ11 u1^3*u2+u2^5+u1*u2^4\n"
+    ++ codes "Z12 u1^3*u2+u1*u2^4+u1^2*u2^3\nZ13 u1^3*u2+u2^6+u1*u2^5\nW12 u1^4+u2^5+u1^2*u2^3\nW13 u1^4+u1*u2^4+u2^6\n"
+    ++ codes "Q10 u1^3+u2*u3^2+u2^4+u1*u2^3\nQ11 u1^3+u2*u3^2+u1*u2^3+u2^5\nQ12 u1^3+u2*u3^2+u2^5+u1*u2^4\nS11 u2^2*u3+u1*u3^2+u1^4+u1^3*u3\n"
+    ++ codes "S12 u2^2*u3+u1*u3^2+u1^3*u2+u1^5\nU12 u1^3+u2^3+u3^4+u1*u2*u3^2\n"
+
+-- this text was written and the run ended so, or a write failed before the text's end
+abbrev pub WroteText : List ℕ → Status → Option (List ℕ) → Option (List ℕ) → Status → Type 0
+WroteText text end old new status =
+    ((status ≡ end) × Appends old new text) ⊎ ((status ≡ statuses.WriteFault) × AppendsPart old new text)
+
+-- the usage line was written
 abbrev pub WroteUsage : Option (List ℕ) → Option (List ℕ) → Status → Type 0
-WroteUsage old new status =
-    ((status ≡ statuses.Usage) × Appends old new usage_line) ⊎ ((status ≡ statuses.WriteFault) × AppendsPart old new usage_line)
+WroteUsage = WroteText usage_line statuses.Usage
+
+-- the table was written
+abbrev pub WroteTable : Option (List ℕ) → Option (List ℕ) → Status → Type 0
+WroteTable = WroteText table_text statuses.Done
+
+-- the source stands as it was, and no read of it failed
+pub record IsUntouched (left after : Option (List ℕ)) (before now : ℕ) : Type 0 where
+  pub unread : Keeps left after
+  pub no_fault : now ≡ before
 
 -- how a run of `classify` ends where no line is handed out
 abbrev pub end_status : Next → Option Status

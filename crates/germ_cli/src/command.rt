@@ -11,6 +11,8 @@ pub enum Command {
     Classify { limit: u8 },
     /// A verdict on each chunk.
     Check,
+    /// The families of the list with their normal forms.
+    Table,
 }
 
 /// The highest order that is tried where the words name none.
@@ -28,7 +30,7 @@ fn read_limit(word: &[u8]) -> Option<u8>
 }
 
 /// The command that the words spell: `classify`, or `classify K` with K from 3 to 16, decimal without
-/// sign and without leading zeros, or `check`. `None` exactly where they spell none.
+/// sign and without leading zeros, or `check`, or `table`. `None` exactly where they spell none.
 pub fn read_words(words: &[String]) -> Option<Command>
     ensures some { IfSome result (AsksFor (map string_bytes words.now)) }
     ensures none { result ≡ None → AskForNothing (map string_bytes words.now) }
@@ -36,6 +38,7 @@ pub fn read_words(words: &[String]) -> Option<Command>
     match words {
         [word] if word.as_str() == "classify" => Some(Command::Classify { limit: LIMIT }),
         [word] if word.as_str() == "check" => Some(Command::Check),
+        [word] if word.as_str() == "table" => Some(Command::Table),
         [word, limit] if word.as_str() == "classify" => match read_limit(limit.as_bytes()) {
             Some(limit) => Some(Command::Classify { limit }),
             None => None,

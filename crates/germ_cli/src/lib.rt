@@ -7,6 +7,7 @@ mod classification;
 mod command;
 mod finding;
 mod status;
+mod told;
 mod top;
 
 pub use command::{Command, read_words};

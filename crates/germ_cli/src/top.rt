@@ -1,23 +1,21 @@
 //! The top call.
 ghost use Rattle.germ_cli.specs.Checking.{Checks, ChecksAll, ChecksEnded, ChecksWithin, EndsChecked, WroteFindingsFront};
-ghost use Rattle.germ_cli.specs.Run.{AnswersAll, AnswersEnded, AnswersWithin, Classifies, EndsWell, IsQuiet, TakesWithin, WroteFront, WroteUsage};
+ghost use Rattle.germ_cli.specs.Run.{AnswersAll, AnswersEnded, AnswersWithin, Classifies, EndsWell, IsQuiet, IsUntouched, TakesWithin, WroteFront, WroteTable, WroteUsage};
 ghost use Rattle.germ_cli.specs.declared.command.Command.{Command};
 ghost use Rattle.germ_cli.specs.Words.{AskForNothing, AsksFor, IsWithinLimits, input_limit_of};
 ghost use Rattle.line_io.specs.Causes.{Rose};
 ghost use Rattle.line_io.specs.Chunks.{chunks_of};
 ghost use Rattle.line_io.specs.Lines.{answered_lines};
 ghost use Rattle.determinator.specs.Exact.{IsExact};
-ghost use Rattle.std.specs.Io.KnownBytes.{Keeps};
 ghost use Rattle.std.specs.Prelude.{◌≡◌, ◌≤◌, ℕ, false, map, true, IfSome, string_bytes};
 
 use crate::checking::check_chunks;
 use crate::classification::classify_lines;
 use crate::command::{Command, read_words};
 use crate::status::Status;
-use line_io::{Sink, Source, write_whole};
+use crate::told::{TABLE, USAGE, tell};
+use line_io::{Sink, Source};
 use std::alloc::Global;
-
-const USAGE: &[u8] = b"usage: germ classify [K] | check | make START COUNT | table\n";
 
 // Does what the command says.
 fn execute<S: Source, W: Sink>(
@@ -29,6 +27,7 @@ fn execute<S: Source, W: Sink>(
     requires { IsWithinLimits command }
     ensures classifies { (limit : ℕ) → command ≡ Command.Classify limit → Classifies limit (S.left source.old) (S.left source.new) (W.taken sink.old) (W.taken sink.new) result }
     ensures checks { command ≡ Command.Check → Checks (S.left source.old) (S.left source.new) (W.taken sink.old) (W.taken sink.new) result }
+    ensures tells { command ≡ Command.Table → WroteTable (W.taken sink.old) (W.taken sink.new) result × IsUntouched (S.left source.old) (S.left source.new) (S.faults source.old) (S.faults source.new) }
     ensures read { result ≡ Status.ReadFault → Rose (S.faults source.old) (S.faults source.new) }
     ensures write { result ≡ Status.WriteFault → Rose (W.faults sink.old) (W.faults sink.new) }
     ensures usage { result ≡ Status.Usage → ⊥ }
@@ -37,6 +36,7 @@ fn execute<S: Source, W: Sink>(
     match command {
         Command::Classify { limit } => classify_lines(alloc, limit, source, sink),
         Command::Check => check_chunks(alloc, source, sink),
+        Command::Table => tell(sink, TABLE, Status::Done),
     }
 }
 
@@ -45,8 +45,8 @@ fn execute<S: Source, W: Sink>(
 /// With `classify`, or `classify K` for K from 3 to 16, it reads the input line by line and writes the
 /// report of each answered line before the next is read, up to order 12 or K. With `check` it reads
 /// the input in chunks, each up to and with a line `end`, and writes the line of each before the next
-/// is read: `valid`, `unchecked`, `invalid ITEM`, `range ITEM` or `invalid text OFFSET`. All other
-/// words are answered `Usage`, and the usage line is written.
+/// is read: `valid`, `unchecked`, `invalid ITEM`, `range ITEM` or `invalid text OFFSET`. With `table` it
+/// reads nothing and writes the families of the list. All other words are answered `Usage`, and the usage line is written.
 ///
 /// Errors: `Invalid` where `check` came to the end and some line begins with `invalid`; `ReadFault`
 /// and `WriteFault` only where a read or a write failed in this call; `InputLimit` exactly where more
@@ -93,10 +93,14 @@ pub fn run<S: Source, W: Sink>(
     ensures check_at_limit { AsksFor (map string_bytes words.now) Command.Check → result ≡ Status.InputLimit →
         ChecksWithin (S.left source.old) (S.left source.new) (W.taken sink.old) (W.taken sink.new) }
 
+    // With `table` the table was written, or a part of it and a write failed; nothing was read.
+    ensures table { AsksFor (map string_bytes words.now) Command.Table → WroteTable (W.taken sink.old) (W.taken sink.new) result }
+    ensures table_unread { AsksFor (map string_bytes words.now) Command.Table → IsUntouched (S.left source.old) (S.left source.new) (S.faults source.old) (S.faults source.new) }
+
     // Other words are answered before any read.
     ensures usage { result ≡ Status.Usage → AskForNothing (map string_bytes words.now) }
     ensures wrong { AskForNothing (map string_bytes words.now) → WroteUsage (W.taken sink.old) (W.taken sink.new) result }
-    ensures unread { AskForNothing (map string_bytes words.now) → Keeps (S.left source.old) (S.left source.new) × (S.faults source.new ≡ S.faults source.old) }
+    ensures unread { AskForNothing (map string_bytes words.now) → IsUntouched (S.left source.old) (S.left source.new) (S.faults source.old) (S.faults source.new) }
 
     // The causes of the other statuses.
     ensures read { result ≡ Status.ReadFault → Rose (S.faults source.old) (S.faults source.new) }
@@ -115,9 +119,6 @@ pub fn run<S: Source, W: Sink>(
 {
     match read_words(words) {
         Some(command) => execute(alloc, command, source, sink),
-        None => match write_whole(sink, USAGE) {
-            Ok(()) => Status::Usage,
-            Err(_) => Status::WriteFault,
-        },
+        None => tell(sink, USAGE, Status::Usage),
     }
 }

@@ -39,7 +39,7 @@ returns-in-Some-clause-check_at_limit g c = λ asked. (c.execute.ensures.checks 
 pub returns-in-Some-clause-limit : goal.returns-in-Some-clause-limit
 returns-in-Some-clause-limit g c = λ command asked.
     let P : Command → Type 0 = λ x. TakesWithin (input_limit_of x) (g.S.Source.left c.args.source.now) (g.S.Source.left c.execute.new.source) c.execute.result in
-    subst P (one_command _ c.in-Some.command command c.in-Some.ensures.some asked) (within_of c.in-Some.command _ _ _ _ _ c.execute.ensures.classifies c.execute.ensures.checks)
+    subst P (one_command _ c.in-Some.command command c.in-Some.ensures.some asked) (within_of c.in-Some.command _ _ _ _ _ _ _ c.execute.ensures.classifies c.execute.ensures.checks c.execute.ensures.tells)
 
 pub returns-in-Some-clause-invalid : goal.returns-in-Some-clause-invalid
 returns-in-Some-clause-invalid g c = λ e.
@@ -57,32 +57,23 @@ returns-in-Some-clause-check_complete g c = λ asked quiet still.
     let run = c.execute.ensures in
     ends_checked _ _ c.execute.result (λ e. not_risen _ _ quiet (run.read e)) (λ e. not_risen _ _ still (run.write e)) run.usage (run.checks (one_command _ c.in-Some.command commands.Check c.in-Some.ensures.some asked)).within
 
-pub returns-in-Ok-clause-front : goal.returns-in-Ok-clause-front
-returns-in-Ok-clause-front g c = λ limit asked. absurd (c.in-None.ensures.none refl (commands.Classify limit) asked)
+pub returns-in-None-clause-front : goal.returns-in-None-clause-front
+returns-in-None-clause-front g c = λ limit asked. absurd (c.in-None.ensures.none refl (commands.Classify limit) asked)
 
-pub returns-in-Ok-clause-check_front : goal.returns-in-Ok-clause-check_front
-returns-in-Ok-clause-check_front g c = λ asked. absurd (c.in-None.ensures.none refl commands.Check asked)
+pub returns-in-None-clause-check_front : goal.returns-in-None-clause-check_front
+returns-in-None-clause-check_front g c = λ asked. absurd (c.in-None.ensures.none refl commands.Check asked)
 
-pub returns-in-Ok-clause-limit : goal.returns-in-Ok-clause-limit
-returns-in-Ok-clause-limit g c = λ command asked. absurd (c.in-None.ensures.none refl command asked)
+pub returns-in-None-clause-limit : goal.returns-in-None-clause-limit
+returns-in-None-clause-limit g c = λ command asked. absurd (c.in-None.ensures.none refl command asked)
 
-pub returns-in-Ok-clause-wrong : goal.returns-in-Ok-clause-wrong
-returns-in-Ok-clause-wrong g c = λ _. inl (refl, c.in-Ok.ensures.whole)
+pub returns-in-None-clause-wrong : goal.returns-in-None-clause-wrong
+returns-in-None-clause-wrong g c = λ _. c.tell.ensures.told
 
-pub returns-in-Ok-clause-complete : goal.returns-in-Ok-clause-complete
-returns-in-Ok-clause-complete g c = λ limit asked. absurd (c.in-None.ensures.none refl (commands.Classify limit) asked)
+pub returns-in-None-clause-complete : goal.returns-in-None-clause-complete
+returns-in-None-clause-complete g c = λ limit asked. absurd (c.in-None.ensures.none refl (commands.Classify limit) asked)
 
-pub returns-in-Ok-clause-check_complete : goal.returns-in-Ok-clause-check_complete
-returns-in-Ok-clause-check_complete g c = λ asked. absurd (c.in-None.ensures.none refl commands.Check asked)
-
-pub returns-in-Err-clause-front : goal.returns-in-Err-clause-front
-returns-in-Err-clause-front g c = λ limit asked. absurd (c.in-None.ensures.none refl (commands.Classify limit) asked)
-
-pub returns-in-Err-clause-check_front : goal.returns-in-Err-clause-check_front
-returns-in-Err-clause-check_front g c = λ asked. absurd (c.in-None.ensures.none refl commands.Check asked)
-
-pub returns-in-Err-clause-limit : goal.returns-in-Err-clause-limit
-returns-in-Err-clause-limit g c = λ command asked. absurd (c.in-None.ensures.none refl command asked)
+pub returns-in-None-clause-check_complete : goal.returns-in-None-clause-check_complete
+returns-in-None-clause-check_complete g c = λ asked. absurd (c.in-None.ensures.none refl commands.Check asked)
 
 pub execute-requires : goal.execute-requires
 execute-requires g c = asked_within _ c.in-Some.command c.in-Some.ensures.some
@@ -90,8 +81,17 @@ execute-requires g c = asked_within _ c.in-Some.command c.in-Some.ensures.some
 pub returns-in-Some-clause-exact : goal.returns-in-Some-clause-exact
 returns-in-Some-clause-exact g c = exact
 
-pub returns-in-Ok-clause-exact : goal.returns-in-Ok-clause-exact
-returns-in-Ok-clause-exact g c = exact
+pub returns-in-None-clause-exact : goal.returns-in-None-clause-exact
+returns-in-None-clause-exact g c = exact
 
-pub returns-in-Err-clause-exact : goal.returns-in-Err-clause-exact
-returns-in-Err-clause-exact g c = exact
+pub returns-in-Some-clause-table : goal.returns-in-Some-clause-table
+returns-in-Some-clause-table g c = λ asked. (c.execute.ensures.tells (one_command _ c.in-Some.command commands.Table c.in-Some.ensures.some asked)).0
+
+pub returns-in-Some-clause-table_unread : goal.returns-in-Some-clause-table_unread
+returns-in-Some-clause-table_unread g c = λ asked. (c.execute.ensures.tells (one_command _ c.in-Some.command commands.Table c.in-Some.ensures.some asked)).1
+
+pub returns-in-None-clause-table : goal.returns-in-None-clause-table
+returns-in-None-clause-table g c = λ asked. absurd (c.in-None.ensures.none refl commands.Table asked)
+
+pub returns-in-None-clause-table_unread : goal.returns-in-None-clause-table_unread
+returns-in-None-clause-table_unread g c = λ asked. absurd (c.in-None.ensures.none refl commands.Table asked)
