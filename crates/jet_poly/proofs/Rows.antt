@@ -1,5 +1,8 @@
 -- The loops over the terms of two factors.
-use Rattle.std.proofs.Common.{◌≡◌, ℕ, ◌+◌, ◌<◌, ◌≤◌, ◌^◌, true, leb, ◌⊎◌, inl, inr, List, [], ◌∷◌, ◌++◌, take, get_or, length, sym, ap, subst, ◌∙◌, append_assoc, append-nil}
+use Rattle.std.proofs.Common.{◌≡◌, ℕ, zero, suc, ◌+◌, ◌<◌, ◌≤◌, ◌^◌, Bool, true, false, ◌&&◌, ◌||◌, cond, leb, eqb, ltb, ◌⊎◌, inl, inr, List, [], ◌∷◌, ◌++◌, take, get_or, length, refl, sum, sym, ap, ap₂, subst, ◌∙◌, append_assoc, append-nil, true≢false, arith}
+use Rattle.std.specs.List.{AllByRecursion, All}
+use Rattle.std.proofs.lemmas.Bool.{le-ltb, ne_eqb}
+use Rattle.std.proofs.lemmas.List.Elements.{recursion_from_All}
 use Rattle.std.proofs.lemmas.List.{take_more, map-append, take-map, length-map}
 use Rattle.std.proofs.Math.ListN.{get_or-map}
 use Rattle.ring_theory.specs.Scalars.{Scalars, SumIsHigh}
@@ -13,8 +16,24 @@ use Rattle.jet_law.specs.Heights.{IsHigh, product_heights}
 use Rattle.jet_law.proofs.Gather
 use Rattle.jet_law.proofs.Gather.{filter-append, flat_map-append}
 use Rattle.mono_exp.specs.declared.exponent.Exp.{Exp}
+use Rattle.mono_exp.specs.Exponents.{IsIn, is_before, is_greater_first}
 use Rattle.jet_law.specs.Terms.{exp_of, poly_of}
+use Rattle.jet_poly.specs.JetTerms.{IsRising, AllAfter}
 use Rattle.jet_poly.specs.Gathered.{IsProductHigh, IsRowHigh}
+use Rattle.jet_poly.proofs.Steps.{high-product}
+
+-- a later monomial has no lower degree
+before-degree : (a b : List ℕ) → is_before a b ≡ true → sum a ≤ sum b
+before-degree a b early = step (cases (sum a) (sum b))
+  where
+    cases : (x y : ℕ) → (x ≤ y) ⊎ (y < x)
+    cases x y = grind arith
+
+    step : (sum a ≤ sum b) ⊎ (sum b < sum a) → sum a ≤ sum b
+    step (inl low) = low
+    step (inr high) =
+        let down : sum b ≤ sum a = omega arith in
+        absurd (true≢false (sym early ∙ ap₂ (λ t u. t || (u && is_greater_first a b)) (le-ltb (sum a) (sum b) down) (ne_eqb (sum a) (sum b) (λ e. (let same : sum a ≡ sum b = e in omega arith)))))
 
 module _ {E V : Type 0} (n : ℕ) (s : Scalars V) (c : IsCommRing s.ops) (value : E → V) (k : ℕ) where
   -- h is the product of f and g cut at k
@@ -51,6 +70,33 @@ module _ {E V : Type 0} (n : ℕ) (s : Scalars V) (c : IsCommRing s.ops) (value 
       (sym (ap (λ z. C (times_term (exps n) s.ops u z)) (taken g i t h e)
       ∙ ap C (map-append (λ t. (plus (exps n) u.0 t.0, s.ops.mul u.1 t.1)) (P (take i g)) (one t ∷ []))
       ∙ filter-append (λ t. leb (degree (exps n) t.0) k) (times_term (exps n) s.ops u (P (take i g))) ((plus (exps n) u.0 (exp_of n t.0), s.ops.mul u.1 (value t.1)) ∷ []))))
+
+  -- where the product of u and a term has a degree above k, the terms after it give nothing
+  rest_is_cut : (u t : Exp) (x : V) (g : List (Exp × E)) → IsIn n u.e → AllByRecursion (λ w. IsIn n w.0.e) g → AllAfter t g → k < sum u.e + sum t.e
+      → C (times_term (exps n) s.ops (exp_of n u, x) (P g)) ≡ []
+  rest_is_cut u t x [] among all after high = refl
+  rest_is_cut u t x (w ∷ g) among all after high =
+      let le = before-degree t.e w.0.e after.0 in
+      ap (λ b. cond b ((plus (exps n) (exp_of n u) (exp_of n w.0), s.ops.mul x (value w.1)) ∷ C (times_term (exps n) s.ops (exp_of n u, x) (P g))) (C (times_term (exps n) s.ops (exp_of n u, x) (P g))))
+      (high-product n k u w.0 among all.0 (omega (arith, le, high))) ∙ rest_is_cut u t x g among all.1 after.1 high
+
+  -- such a term and those after it give nothing
+  row_is_cut : (u : Exp) (x : V) (g : List (Exp × E)) (i : ℕ) (t : Exp × E) → IsIn n u.e → AllByRecursion (λ w. IsIn n w.0.e) g → IsRising g → i < length g → t ≡ get_or g i t → k < sum u.e + sum t.0.e
+      → C (times_term (exps n) s.ops (exp_of n u, x) (P (take i g))) ≡ C (times_term (exps n) s.ops (exp_of n u, x) (P g))
+  row_is_cut u x [] i t among all rising inside e high = absurd (omega arith)
+  row_is_cut u x (w ∷ g) zero t among all rising inside e high =
+      let above : k < sum u.e + sum w.0.e = subst (λ z. k < sum u.e + sum z.0.e) e high in
+      sym (ap (λ b. cond b ((plus (exps n) (exp_of n u) (exp_of n w.0), s.ops.mul x (value w.1)) ∷ C (times_term (exps n) s.ops (exp_of n u, x) (P g))) (C (times_term (exps n) s.ops (exp_of n u, x) (P g))))
+      (high-product n k u w.0 among all.0 above) ∙ rest_is_cut u w.0 x g among all.1 rising.0 above)
+  row_is_cut u x (w ∷ g) (suc i) t among all rising inside e high =
+      let p : ExpList n × V = (plus (exps n) (exp_of n u) (exp_of n w.0), s.ops.mul x (value w.1)) in
+      ap (λ z. cond (leb (degree (exps n) p.0) k) (p ∷ z) z) (row_is_cut u x g i t among all.1 rising.1 (omega arith) e high)
+
+  -- a sum of products of u with the terms before such a term is that with all terms
+  pub row_ends : (old now : Terms (ExpList n) V) (u : Exp) (x : V) (g : List (Exp × E)) (i : ℕ) (t : Exp × E) → IsIn n u.e → All (λ w. IsIn n w.0.e) g → IsRising g → i < length g → t ≡ get_or g i t → k < sum u.e + sum t.0.e
+      → S now (old ++ C (times_term (exps n) s.ops (exp_of n u, x) (P (take i g)))) → S now (old ++ C (times_term (exps n) s.ops (exp_of n u, x) (P g)))
+  row_ends old now u x g i t among all rising inside e high so_far =
+      subst (λ z. S now (old ++ z)) (row_is_cut u x g i t among (recursion_from_All (λ w. IsIn n w.0.e) g all) rising inside e high) so_far
 
   inside : (g : List (Exp × E)) (i : ℕ) → i < length g → i < length (P g)
   inside g i h = subst (λ l. i < l) (sym (length-map g one)) h

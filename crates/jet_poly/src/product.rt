@@ -9,6 +9,7 @@ ghost use Rattle.poly_law.specs.Polynomials.{SameIn, times_in, cut_in};
 ghost use Rattle.mono_exp.specs.Exponents.{IsIn};
 ghost use Rattle.jet_law.specs.Heights.{IsHigh, product_heights};
 ghost use Rattle.jet_law.specs.Terms.{exp_of, poly_of};
+ghost use Rattle.jet_poly.specs.JetTerms.{IsRising};
 ghost use Rattle.jet_poly.specs.Jets.{IsJet};
 ghost use Rattle.jet_poly.specs.Gathered.{gathered, IsGathered, IsProductHigh, IsRowHigh};
 
@@ -19,7 +20,7 @@ use mono_exp::{Exp, degree, times};
 use ring_law::{Fault, Ring};
 use std::alloc::Global;
 
-/// Adds the product of two terms, unless its degree is above k.
+/// Adds the product of two terms whose degree is at most k.
 fn add_product<R: Ring>(
     ring: &R,
     n: u8,
@@ -35,21 +36,19 @@ fn add_product<R: Ring>(
     requires t_elem { (R.meaning ring.now).is_elem t.1 }
     requires u_variables { IsIn n u.0.e }
     requires t_variables { IsIn n t.0.e }
+    requires degree { sum u.0.e + sum t.0.e ≤ k }
     requires gathered { IsGathered n k (R.meaning ring.now) sums.old.entries }
     ensures gathered { OnOk result (IsGathered n k (R.meaning ring.now) sums.new.entries) }
     ensures sum { OnOk result (let m = R.meaning ring.now in SameIn n m.scalars.ops (gathered n m.value sums.new.entries)
         (cut_in n m.scalars.ops k ((plus (exps n) (exp_of n u.0) (exp_of n t.0), m.scalars.ops.mul (m.value u.1) (m.value t.1)) ∷ []) ++ gathered n m.value sums.old.entries)) }
     ensures range { OnFault result (let m = R.meaning ring.now in IsProductHigh n m.scalars k (gathered n m.value sums.old.entries) (exp_of n u.0, m.value u.1) (exp_of n t.0, m.value t.1)) }
 {
-    if degree(u.0) + degree(t.0) > u16::from(k) {
-        return Ok(());
-    }
     let monomial = times(u.0, t.0).unwrap();
     let c = ring.mul(u.1, t.1)?;
     add_term(ring, n, k, sums, monomial, c)
 }
 
-/// Adds the products of u with the terms of g.
+/// Adds the products of u with the terms of g; the terms of g rise in degree, so from the first product above degree k on none is formed.
 fn add_row<R: Ring>(
     ring: &R,
     n: u8,
@@ -65,6 +64,7 @@ fn add_row<R: Ring>(
     requires variables { IsIn n u.0.e }
     requires elems { All (λ t. (R.meaning ring.now).is_elem t.1) g.now }
     requires all_variables { All (λ t. IsIn n t.0.e) g.now }
+    requires rising { IsRising g.now }
     requires gathered { IsGathered n k (R.meaning ring.now) sums.old.entries }
     ensures gathered { OnOk result (IsGathered n k (R.meaning ring.now) sums.new.entries) }
     ensures sum { OnOk result (let m = R.meaning ring.now in SameIn n m.scalars.ops (gathered n m.value sums.new.entries)
@@ -72,6 +72,9 @@ fn add_row<R: Ring>(
     ensures range { OnFault result (let m = R.meaning ring.now in IsRowHigh n m.scalars k (gathered n m.value sums.old.entries) (exp_of n u.0, m.value u.1) (poly_of n m.value g.now)) }
 {
     for t in g {
+        if degree(u.0) + degree(t.0) > u16::from(k) {
+            return Ok(());
+        }
         add_product(ring, n, k, sums, u, *t)?;
     }
     Ok(())
@@ -93,6 +96,7 @@ fn product_of<R: Ring>(
     requires f_variables { All (λ t. IsIn n t.0.e) f.now }
     requires g_elems { All (λ t. (R.meaning ring.now).is_elem t.1) g.now }
     requires g_variables { All (λ t. IsIn n t.0.e) g.now }
+    requires g_rising { IsRising g.now }
     ensures jet { IfOk result (IsJet (R.meaning ring.now)) }
     ensures n { IfOk result (λ h. h.n ≡ n) }
     ensures order { IfOk result (λ h. h.order ≡ k) }

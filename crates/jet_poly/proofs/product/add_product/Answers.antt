@@ -10,19 +10,10 @@ use Rattle.jet_poly.specs.Gathered.{gathered}
 use Rattle.jet_poly.proofs.Steps.{on_ok, low-product, high-product}
 use Rattle.jet_poly.proofs.product.add_product.Goals as goal
 
-pub returns-then-degree-from-clause-sum : goal.returns-then-degree-from-clause-sum
-returns-then-degree-from-clause-sum g c b =
-    let m = g.R.Ring.meaning c.args.ring.now in
-    let high : c.args.k < sum c.args.u.0.e + sum c.args.t.0.e = (let d = c.degree.ensures.degree in let d' = c.degree-2.ensures.degree in let f = c.from.ensures in let t = c.if-degree-from.true in omega arith) in
-    let term : ExpList c.args.n × g.R.Ring.Value c.args.ring.now = (plus (exps c.args.n) (exp_of c.args.n c.args.u.0) (exp_of c.args.n c.args.t.0), m.scalars.ops.mul (m.value c.args.u.1) (m.value c.args.t.1)) in
-    ap (λ t. coefficient (exps c.args.n) m.scalars.ops (cond t (term ∷ []) [] ++ gathered c.args.n m.value c.args.sums.now.entries) b)
-    (sym (high-product c.args.n c.args.k c.args.u.0 c.args.t.0 c.requires.u_variables c.requires.t_variables high))
-
 pub returns-in_err-c-clause-range : goal.returns-in_err-c-clause-range
 returns-in_err-c-clause-range g c =
-    let low : sum c.args.u.0.e + sum c.args.t.0.e ≤ c.args.k = (let d = c.degree.ensures.degree in let d' = c.degree-2.ensures.degree in let f = c.from.ensures in let t = c.if-degree-from.false in omega arith) in
     faulted _ c.from_residual.ensures.1
-    (λ high. record { low = low-product c.args.n c.args.k c.args.u.0 c.args.t.0 c.requires.u_variables c.requires.t_variables low; high = inl high }) c.in_err-c.ensures.cause
+    (λ high. record { low = low-product c.args.n c.args.k c.args.u.0 c.args.t.0 c.requires.u_variables c.requires.t_variables c.requires.degree; high = inl high }) c.in_err-c.ensures.cause
 
 pub returns-clause-sum : goal.returns-clause-sum
 returns-clause-sum g c =
@@ -35,10 +26,9 @@ returns-clause-sum g c =
 pub returns-clause-range : goal.returns-clause-range
 returns-clause-range g c =
     let m = g.R.Ring.meaning c.args.ring.now in
-    let low : sum c.args.u.0.e + sum c.args.t.0.e ≤ c.args.k = (let d = c.degree.ensures.degree in let d' = c.degree-2.ensures.degree in let f = c.from.ensures in let t = c.if-degree-from.false in omega arith) in
     faulted_by
     (λ high. record {
-      low = low-product c.args.n c.args.k c.args.u.0 c.args.t.0 c.requires.u_variables c.requires.t_variables low;
+      low = low-product c.args.n c.args.k c.args.u.0 c.args.t.0 c.requires.u_variables c.requires.t_variables c.requires.degree;
       high = inr (subst (λ z. SumIsHigh m.scalars (coefficient (exps c.args.n) m.scalars.ops (gathered c.args.n m.value c.args.sums.now.entries) z) (m.scalars.ops.mul (m.value c.args.u.1) (m.value c.args.t.1)))
           (exp_of-product c.args.n c.args.u.0 c.args.t.0 c.unwrap-monomial.result (rw c.unwrap-monomial.ensures at c.times.ensures.product))
           (subst (λ z. SumIsHigh m.scalars (coefficient (exps c.args.n) m.scalars.ops (gathered c.args.n m.value c.args.sums.now.entries) (exp_of c.args.n c.unwrap-monomial.result)) z) c.in_ok-c.ensures.value high.high));

@@ -1,4 +1,4 @@
-use Rattle.std.proofs.Common.{◌++◌, take_all, subst, arith}
+use Rattle.std.proofs.Common.{◌+◌, ◌<◌, ◌++◌, take_all, sum, subst, arith}
 use Rattle.ring_law.proofs.Exits.{fault_handed_on}
 use Rattle.poly_law.specs.ExpList.{exps}
 use Rattle.poly_law.specs.Poly.{Same, cut, times_term}
@@ -30,3 +30,10 @@ returns-clause-sum g c =
     let m = g.R.Ring.meaning c.args.ring.now in
     subst (λ z. Same (exps c.args.n) m.scalars.ops (gathered c.args.n m.value c.loop-t.sums.entries) (gathered c.args.n m.value c.args.sums.now.entries ++ cut (exps c.args.n) m.scalars.ops c.args.k (times_term (exps c.args.n) m.scalars.ops (exp_of c.args.n c.args.u.0, m.value c.args.u.1) (poly_of c.args.n m.value z))))
     (take_all c.loop-t.t-index c.args.g.now (omega arith)) c.loop-t.invariant.so_far
+
+pub returns-then-degree-from-clause-sum : goal.returns-then-degree-from-clause-sum
+returns-then-degree-from-clause-sum g c =
+    let m = g.R.Ring.meaning c.args.ring.now in
+    let high : c.args.k < sum c.args.u.0.e + sum c.t-item.result.0.e = (let d = c.degree.ensures.degree in let d' = c.degree-in-loop-t.ensures.degree in let f = c.from.ensures in let t = c.if-degree-from.true in omega arith) in
+    Rows.row_ends c.args.n m.scalars (g.met.R.Ring.laws c.args.ring.now c.requires.ring).numbers.ring m.value c.args.k (gathered c.args.n m.value c.args.sums.now.entries) (gathered c.args.n m.value c.loop-t.sums.entries) c.args.u.0 (m.value c.args.u.1) c.args.g.now c.loop-t.t-index c.t-item.result
+    c.requires.variables c.requires.all_variables c.requires.rising c.loop-t-test.true c.t-item.is high c.loop-t.invariant.so_far
