@@ -105,10 +105,6 @@ pub all-weaker : {X : Type 0} (Q R : X → Type 0) → ((x : X) → Q x → R x)
 all-weaker Q R f [] a = tt
 all-weaker Q R f (x ∷ xs) a = (f x a.0, all-weaker Q R f xs a.1)
 
-pub all-of : {X : Type 0} (Q : X → Type 0) (xs : List X) → All Q xs → AllByRecursion Q xs
-all-of Q [] a = tt
-all-of Q (x ∷ xs) a = (a 0 x (omega arith), all-of Q xs (λ j d g. a (suc j) d (omega arith)))
-
 -- ---- what holds between two rounds
 
 module _ {E V : Type 0} (m : Meaning E V) (letters : List V) (p : Part) (n grade : ℕ) where

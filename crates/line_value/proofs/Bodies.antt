@@ -110,15 +110,6 @@ declared_body n steps l a h = (body_of n steps l.declared l.body a h).0
 pub declared_length : (n : ℕ) (steps : List Step) (l : Line) → AreStepsOf n l steps → begins_with_bracket steps ≡ true → 2 * n + 1 ≤ length steps
 declared_length n steps l a h = (body_of n steps l.declared l.body a h).1
 
--- the steps of a line without declaration
-plain_of : (n : ℕ) (steps : List Step) (declared : Option (List Word)) (body : Expr) → let l : Line = record { declared = declared; body = body } in
-    AreStepsOf n l steps → begins_with_bracket steps ≡ false → steps ≡ map (step_of (names_of l)) (expr_tokens body)
-plain_of n steps None body a h = a.steps_are
-plain_of n steps (Some names) body a h = absurd (true≢false (sym (ap begins_with_bracket a.steps_are) ∙ h))
-
-pub plain_body : (n : ℕ) (steps : List Step) (l : Line) → AreStepsOf n l steps → begins_with_bracket steps ≡ false → steps ≡ map (step_of (names_of l)) (expr_tokens l.body)
-plain_body n steps l a h = plain_of n steps l.declared l.body a h
-
 -- ---- the names of an expression
 
 -- each name in a list of words that are collected is among those that were collected
