@@ -288,8 +288,6 @@ pub still : (before mid : Lines) (chunk : ChunkSoFar) (old new : Option (List �
     → before.faulted ≡ false → before.out_of_memory ≡ false → before.taken ≤ 268435456 → taken ≡ mid.taken → IsChunkDecided before → taken ≡ before.taken
 still before mid chunk old new faults later taken i sound in_memory small same d = same ∙ still_of before mid old new faults later i.more i.counted i.reads sound in_memory small d
 
--- ---- where each byte taken went with an earlier chunk
-
 -- ---- the bytes held go into the chunk
 
 -- the chunk with more bytes in its last line

@@ -6,7 +6,7 @@ use Rattle.std.specs.Str.{bytes_eq}
 use Rattle.std.proofs.lemmas.List.{map-append, length-map}
 use Rattle.std.proofs.lemmas.List.Folds.{list_all-append}
 use Rattle.std.proofs.lemmas.List.Elements.{All-nil, All-cons}
-use Rattle.line_syntax.specs.Syntax.{Word, Line, IsLine, Expr, Term, Factor, Atom, Sign, plus, minus, Token, name, number, symbol, sign_token, expr_tokens, term_tokens, factor_tokens, atom_tokens, after_commas, separated, declaration_tokens, tokens_of, names_of, names_in, is_among}
+use Rattle.line_syntax.specs.Syntax.{Word, Line, Expr, Term, Factor, Atom, Sign, plus, minus, Token, name, number, symbol, sign_token, expr_tokens, term_tokens, factor_tokens, atom_tokens, after_commas, declaration_tokens, names_of, names_in, is_among}
 use Rattle.line_syntax.specs.Syntax as syntax
 use Rattle.std.proofs.lemmas.Slice.Eq.{bytes_eq-Decides}
 use Rattle.line_syntax.proofs.Bools.{and_left, and_right, or_other, all_found}

@@ -94,5 +94,3 @@ series_none (families.A m) bytes h e a d t = a m h (sym (a_text m) ∙ e)
 series_none (families.D m) bytes h e a d t = d m h (sym (d_text m) ∙ e)
 series_none (families.T p q r) bytes h e a d t = t (families.T p q r) h e
 series_none _ bytes h e a d t = absurd h
-
--- ---- all families

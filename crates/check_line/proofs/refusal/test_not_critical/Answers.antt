@@ -1,5 +1,4 @@
 -- The first variable with a linear coefficient is one.
-use Rattle.report_law.specs.Right.{IsHighLine}
 use Rattle.check_line.proofs.LineTests.{one_linear, tested_by, high_line, germ_no_linear, literal_no_linear}
 use Rattle.check_line.proofs.refusal.test_not_critical.Goals as goal
 
