@@ -7,7 +7,7 @@ use Rattle.ring_law.specs.declared.fraction.Op.TheVariants.{Root}
 use Rattle.ext_theory.specs.Extension.{Quadratic, Cubic, cubic_at, quadratic_lift}
 use Rattle.small_frac.specs.Exact.{IsSquareRoot}
 use Rattle.ext_theory.specs.Roots.{HasNoRoot}
-use Rattle.small_frac.specs.Roots.{IsLeastRootFrac, cubic_root_height}
+use Rattle.small_frac.specs.Roots.{IsLeastRootFrac, cubic_of, cubic_root_height}
 use Rattle.ext_algebra.specs.declared.algebra.Ext.{Ext}
 use Rattle.ext_algebra.specs.declared.algebra.Triple.{Triple}
 use Rattle.ext_algebra.specs.declared.field.ExtError.{ExtError}
