@@ -7,7 +7,7 @@ use Rattle.ring_law.specs.Fraction.{IsFrac, frac_value}
 use Rattle.small_frac.specs.Roots.{QuadraticIsHigh}
 use Rattle.ext_algebra.specs.declared.algebra.Algebra.{Algebra}
 use Rattle.ext_algebra.specs.declared.algebra.Algebra.TheVariants as algebras
-use Rattle.ext_algebra.specs.Algebra.{quadratic_modulus}
+use Rattle.small_frac.specs.Roots.{quadratic_of}
 use Rattle.move_law.specs.Work.{IsWorkHigh}
 use Rattle.move_law.specs.Shapes.{nth, over_work}
 use Rattle.move_law.specs.Binary.{Roots, none, both, IsAnswered, pair_question, monic_quadratic}
@@ -26,7 +26,7 @@ roots_in (pairs.Over a) = none
 
 -- a is the algebra with the modulus t^2 + (q1/q0) t + q2/q0, of valid fractions
 abbrev pub IsPairAlgebra : List Rational → Algebra → Type 0
-IsPairAlgebra q (algebras.Quadratic m1 m0) = IsFrac m1 × IsFrac m0 × (quadratic_modulus m1 m0 ≡ monic_quadratic 2 (coefficient q 0) (coefficient q 1) (coefficient q 2))
+IsPairAlgebra q (algebras.Quadratic m1 m0) = IsFrac m1 × IsFrac m0 × (quadratic_of m1 m0 ≡ monic_quadratic 2 (coefficient q 0) (coefficient q 1) (coefficient q 2))
 IsPairAlgebra q algebras.Rational = ⊥
 IsPairAlgebra q (algebras.Cubic m2 m1 m0) = ⊥
 IsPairAlgebra q (algebras.Tower m2 m1 m0 d) = ⊥

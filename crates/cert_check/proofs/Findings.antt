@@ -37,10 +37,6 @@ exactly : (b : Bool) (P : Type 0) → IsTrue b ↔ P → IsTested P ⊥ (tested_
 exactly true P e = e.0 refl
 exactly false P e = λ p. true≢false (sym (e.1 p))
 
--- a decided test is one that is never high
-pub decided_is : {P : Type 0} (b : Bool) → IsTrue b ↔ P → IsTested P ⊥ (tested_by b)
-decided_is {P} b e = exactly b P e
-
 -- the answer of a call that may refuse, as a test
 pub tested_is : (P H : Type 0) (r : Result Bool Fault) → IfOk r (λ b. IsTrue b ↔ P) → OnFault r H → (t : Tested) → IsTestOf r t → IsTested P H t
 tested_is P H r h o tested.Holds e = let k : IfOk {E = Fault} (Ok true) (λ b. IsTrue b ↔ P) = subst (λ z. IfOk z (λ b. IsTrue b ↔ P)) e h in k.0 refl

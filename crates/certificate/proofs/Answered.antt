@@ -52,7 +52,7 @@ use Rattle.determinacy.specs.Tests as tests
 use Rattle.determinacy.specs.Tests.{IsMonomialIn}
 use Rattle.milnor_alg.specs.declared.quotient.JetQuotient.{JetQuotient}
 use Rattle.milnor_alg.specs.declared.quotient.TableRow.{TableRow}
-use Rattle.milnor_alg.specs.Rows.{row_of}
+use Rattle.milnor_alg.specs.Rows.{basis_at, row_of, values_at}
 use Rattle.jet_quotient.specs.Quotients as quotients
 use Rattle.jet_quotient.proofs.AnswerFacts.{degrees_low}
 use Rattle.normal_forms.specs.Monomials.{in_eight, monomials_in}
@@ -359,7 +359,7 @@ module _ (base : Carried) where
           step (inl z) =
               let d : degree (exps g.n) one ≡ 0 = ExpLaws.degree-none (exps g.n) (exps_are g.n) in
               let multiplier = quotients.multipliers_at meaning g.n q.table one in
-              absurd (nontrivial (sym (nothing_taken (length q.basis) z (quotients.basis_at g.n q.basis) (quotients.values_at meaning g.n q.table one))
+              absurd (nontrivial (sym (nothing_taken (length q.basis) z (basis_at g.n q.basis) (values_at meaning g.n q.table one))
               ∙ is.table.adds_up one (omega arith) one (omega arith) ∙ combination_starts multiplier g.n (omega arith) one (omega arith)))
 
       -- the monomials of the table have degree at most k
@@ -466,10 +466,10 @@ module _ (base : Carried) where
           no_exponents : exp_of g.n (record { e = [] }) ≡ monomial_in g.n (in_eight []).e
           no_exponents = ap (lists.exp_of g.n) (fun_ext λ i. sym (in_eight-in 0 [] (omega arith) i (omega arith)))
 
-          basis_same : quotients.basis_at g.n q.basis ≡ basis_of R
+          basis_same : basis_at g.n q.basis ≡ basis_of R
           basis_same = fun_ext λ i. by_default (exp_of g.n) q.basis i (record { e = [] }) (in_eight []) no_exponents
 
-          values_same : quotients.values_at meaning g.n q.table ≡ values_of_row R
+          values_same : values_at meaning g.n q.table ≡ values_of_row R
           unfolding value_at value_in scalars
           values_same = fun_ext λ m. fun_ext λ j.
               sym (image_at (value_in A) (row_of g.n q.table m).values j zero_element (ops A).zero (zero_is A))
@@ -483,8 +483,8 @@ module _ (base : Carried) where
             quotient =
                 subst (λ f. IsQuotientTable (exps g.n) (ops A) k f (length q.basis) (basis_of R) (values_of_row R) (multipliers_of_row R)) (sym residual)
                 (subst (λ b. IsQuotientTable (exps g.n) (ops A) k (polynomial_of meaning g) (length q.basis) b (values_of_row R) (multipliers_of_row R)) basis_same
-                (subst (λ v. IsQuotientTable (exps g.n) (ops A) k (polynomial_of meaning g) (length q.basis) (quotients.basis_at g.n q.basis) v (multipliers_of_row R)) values_same
-                (subst (IsQuotientTable (exps g.n) (ops A) k (polynomial_of meaning g) (length q.basis) (quotients.basis_at g.n q.basis) (quotients.values_at meaning g.n q.table)) multipliers_same is.table)));
+                (subst (λ v. IsQuotientTable (exps g.n) (ops A) k (polynomial_of meaning g) (length q.basis) (basis_at g.n q.basis) v (multipliers_of_row R)) values_same
+                (subst (IsQuotientTable (exps g.n) (ops A) k (polynomial_of meaning g) (length q.basis) (basis_at g.n q.basis) (values_at meaning g.n q.table)) multipliers_same is.table)));
             number = refl;
           }
 

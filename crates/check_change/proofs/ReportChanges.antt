@@ -1,6 +1,6 @@
 -- The change of a report and its germ over the ring of its algebra.
 use mathlib.Core.Path.{fun_ext}
-use Rattle.std.proofs.Common.{◌≡◌, ℕ, zero, suc, ◌+◌, ◌*◌, ◌<◌, ◌≤◌, Bool, true, false, IsTrue, ◌↔◌, cond, List, [], ◌∷◌, map, length, get_or, All, sum, refl, sym, ap, ap₂, subst, ◌∙◌, arith}
+use Rattle.std.proofs.Common.{◌≡◌, ℕ, zero, suc, ◌+◌, ◌*◌, ◌<◌, ◌≤◌, Bool, true, false, IsTrue, ◌↔◌, cond, List, [], ◌∷◌, length, get_or, All, sum, refl, sym, ap, ap₂, subst, ◌∙◌, arith}
 use Rattle.std.specs.Prelude.{nat_lt, slice_index_or}
 use Rattle.std.specs.List.{AllByRecursion, list_all}
 use Rattle.std.proofs.lemmas.Bool.{ltb-true}
@@ -38,7 +38,7 @@ use Rattle.coord_change.proofs.ChangeLemmas
 use Rattle.line_jet_law.specs.LineJets.{rational_polynomial}
 use Rattle.cert_text.specs.declared.report.Carried.{Carried}
 use Rattle.cert_text.specs.WellFormed.{IsWellFormedCarried, IsPartOf}
-use Rattle.report_law.specs.Polynomials.{PolynomialOver, jet_at, value_at, zero_element, lifted}
+use Rattle.report_law.specs.Polynomials.{PolynomialOver, jet_at, value_at, lifted}
 use Rattle.report_law.specs.Items.{variables_of, ring_of, jet_of, part_of, matrix_of, IsInvertibleChange}
 use Rattle.report_jet.proofs.ReportJets.{jet_valid, terms_in-poly_of, get_or-values}
 use Rattle.check_change.specs.Heights.{AreProductsHigh, IsInverseHigh, IsCarryHigh}

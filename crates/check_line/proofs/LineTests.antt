@@ -1,15 +1,14 @@
 -- What the reading of a line says of the items that speak of it.
-use Rattle.std.proofs.Common.{◌≡◌, ◌≢◌, ℕ, ◌+◌, ◌<◌, ◌≤◌, Bool, true, false, IsTrue, ◌↔◌, List, [], ◌∷◌, map, length, max, ◌⊎◌, inl, inr, refl, sym, ap, subst, ◌∙◌, true≢false, arith, eqb-true, eq-eqb, leb-true, ltb-true, lt-ltb, le-leb}
+use Rattle.std.proofs.Common.{◌≡◌, ◌≢◌, ℕ, ◌+◌, ◌≤◌, Bool, true, false, IsTrue, ◌↔◌, List, [], map, length, sym, ap, subst, ◌∙◌, true≢false, arith, eqb-true, eq-eqb}
 use Rattle.std.specs.Prelude.{◌==◌, ◌||◌, ◌&&◌, nat_lt, nat_le}
 use Rattle.std.specs.List.{list_all}
 use Rattle.std.proofs.lemmas.Bool.Decides.{nat_tests}
 use Rattle.line_syntax.specs.Syntax.{Line, names_of, is_name}
-use Rattle.line_syntax.specs.Grammar.{Spells, has_small_literals}
+use Rattle.line_syntax.specs.Grammar.{has_small_literals}
 use Rattle.line_syntax.proofs.Bools.{and_left, and_right}
 use Rattle.line_syntax.proofs.OneLine.{one_line}
-use Rattle.germ_law.specs.Germ.{IsCritical, line_limit}
-use Rattle.line_jet.specs.Reads.{IsReadHigh, IsGermOf, order_of}
-use Rattle.line_germ.specs.Names.{name_of}
+use Rattle.germ_law.specs.Germ.{IsCritical}
+use Rattle.line_jet.specs.Reads.{IsReadHigh, IsGermOf}
 use Rattle.line_germ.specs.Reads.{IsLineGerm, IsSyntaxAt, IsLiteralAt, IsLinearIn}
 use Rattle.line_germ.specs.declared.reading.Germ.{Germ}
 use Rattle.poly_text.specs.declared.name.Name.{Name}
@@ -56,9 +55,6 @@ high_line bytes limit h = record { read = high_read bytes limit h; is_high = h.i
 
 -- ---- syntax
 
-pub read_no_syntax : (bytes : List ℕ) (column : ℕ) (what : What) → IsRead bytes → IsSyntaxAt bytes column what → ⊥
-read_no_syntax bytes column what r h = grammar_excludes bytes column what r.line r.spells h
-
 pub literal_no_syntax : (bytes : List ℕ) (found column : ℕ) (what : What) → IsLiteralAt bytes found → IsSyntaxAt bytes column what → ⊥
 literal_no_syntax bytes found column what r h =
     let s = large_line bytes r.before r.error in grammar_excludes bytes column what s.line_is s.spells h
@@ -92,9 +88,6 @@ one_literal_column bytes found column r = (
 pub germ_no_linear : (bytes : List ℕ) (limit : ℕ) (g : Germ) (w : Name) → IsLineGerm bytes limit g → IsLinearIn bytes w → ⊥
 germ_no_linear bytes limit g w r h = critical_excludes bytes r.is_germ.line w r.is_germ.critical h
 
-pub syntax_no_linear : (bytes : List ℕ) (found : ℕ) (kind : What) (w : Name) → IsSyntaxAt bytes found kind → IsLinearIn bytes w → ⊥
-syntax_no_linear bytes found kind w r h = r.error.outside (h.linear.line, h.linear.spells)
-
 pub literal_no_linear : (bytes : List ℕ) (found : ℕ) (w : Name) → IsLiteralAt bytes found → IsLinearIn bytes w → ⊥
 literal_no_linear bytes found w r h =
     let s = large_line bytes r.before r.error in
@@ -105,9 +98,6 @@ pub one_linear : (bytes : List ℕ) (v w : Name) → IsLinearIn bytes v → (v �
 one_linear bytes v w h = (λ e. subst (IsLinearIn bytes) e h, one_variable_name bytes v w h)
 
 -- ---- critical lines
-
-pub syntax_no_germ : (bytes : List ℕ) (found : ℕ) (kind : What) → IsSyntaxAt bytes found kind → (l : Line) → IsCritical bytes l → ⊥
-syntax_no_germ bytes found kind r l h = r.error.outside (l, h.spells)
 
 pub literal_no_germ : (bytes : List ℕ) (found : ℕ) → IsLiteralAt bytes found → (l : Line) → IsCritical bytes l → ⊥
 literal_no_germ bytes found r l h =

@@ -1,5 +1,5 @@
 -- The line of a report: the limit up to which it is read, and its germ.
-use Rattle.std.specs.Prelude.{◌≡◌, ℕ, Bool, true, false, ◌&&◌, ◌==◌, IsTrue, List, map, max}
+use Rattle.std.specs.Prelude.{◌≡◌, ℕ, IsTrue, List, map, max}
 use Rattle.std.specs.List.{list_all}
 use Rattle.line_syntax.specs.Syntax.{Line, names_of}
 use Rattle.line_syntax.specs.Grammar.{Spells}

@@ -1,14 +1,12 @@
 -- The item Milnor of a report, by what is tested of its table.
 use mathlib.Core.Path.{fun_ext}
-use Rattle.std.proofs.Common.{◌≡◌, ℕ, zero, suc, ◌+◌, ◌<◌, ◌≤◌, true, List, [], ◌∷◌, ◌++◌, map, length, get_or, sum, refl, sym, ap, ap₂, subst, ◌∙◌, arith}
-use Rattle.std.specs.Prelude.{nat_le}
-use Rattle.std.specs.List.{AllByRecursion, list_all}
+use Rattle.std.proofs.Common.{◌≡◌, ℕ, zero, suc, ◌+◌, ◌<◌, ◌≤◌, true, List, [], ◌++◌, map, length, get_or, sum, sym, ap, ap₂, subst, ◌∙◌, arith}
+use Rattle.std.specs.List.{AllByRecursion}
 use Rattle.std.proofs.lemmas.List.Elements.{All-from_recursion, recursion_from_All}
-use Rattle.line_syntax.proofs.Bools.{and_left, and_right}
 use Rattle.ring_theory.specs.Ring.{RingOps}
 use Rattle.ring_law.specs.declared.fraction.Frac.{Frac}
 use Rattle.ext_algebra.specs.declared.algebra.Ext.{Ext}
-use Rattle.ext_algebra.specs.Algebra.{Value, ops, scalars, value_in, algebra_meaning}
+use Rattle.ext_algebra.specs.Algebra.{Value, ops, value_in, algebra_meaning}
 use Rattle.ext_algebra.specs.AlgebraLaws.{algebra_scalar_laws}
 use Rattle.poly_law.specs.Sums.{unit_at}
 use Rattle.poly_law.proofs.Sums.{sum_to-cong}
@@ -25,12 +23,11 @@ use Rattle.jet_poly.proofs.GatheredLemmas.{weaker}
 use Rattle.jacobian_row.specs.Rows.{polynomial_at}
 use Rattle.jacobian_row.proofs.ListSteps.{same_default}
 use Rattle.milnor_alg.specs.declared.quotient.TableRow.{TableRow}
-use Rattle.milnor_alg.specs.Rows.{row_of}
-use Rattle.determinacy.specs.Tests.{IsMonomialIn}
+use Rattle.milnor_alg.specs.Rows.{basis_at, row_of}
 use Rattle.normal_forms.specs.Monomials.{in_eight}
 use Rattle.cert_text.specs.declared.report.Carried.{Carried}
 use Rattle.cert_text.specs.declared.report.Named as named_type
-use Rattle.cert_text.specs.WellFormed.{IsWellFormedNamed, IsWellFormedTableRow, is_residual_monomial, is_monomial_in}
+use Rattle.cert_text.specs.WellFormed.{IsWellFormedNamed}
 use Rattle.report_law.specs.Polynomials.{value_at, jet_at}
 use Rattle.report_law.specs.Items.{residual_of, basis_of, values_of_row, IsMilnorTable}
 use Rattle.report_law.proofs.Listing.{listed_as, kept_list}
@@ -108,11 +105,11 @@ module _ (r : named_type.Named) where
       SameTo (exps n) ring c.order (term (exps n) ring b ++ (poly_ops (exps n) ring).neg (of_basis (exps n) ring size (basis_of r) (λ j. value_at c.algebra row.values j)))
       (combination (exps n) ring (jet_at n c.algebra row.multipliers) (residual_of c))
 
-  basis_same : (row : TableRow (Ext Frac)) → of_basis (exps n) ring size (rows.basis_in n basis) (rows.values_in (algebra_meaning c.algebra) row)
+  basis_same : (row : TableRow (Ext Frac)) → of_basis (exps n) ring size (basis_at n basis) (rows.values_in (algebra_meaning c.algebra) row)
       ≡ of_basis (exps n) ring size (basis_of r) (λ j. value_at c.algebra row.values j)
   basis_same row =
       sum_to-cong (poly_ops (exps n) ring) size
-      (λ j. scale (exps n) ring (rows.values_in (algebra_meaning c.algebra) row j) (term (exps n) ring (rows.basis_in n basis j)))
+      (λ j. scale (exps n) ring (rows.values_in (algebra_meaning c.algebra) row j) (term (exps n) ring (basis_at n basis j)))
       (λ j. scale (exps n) ring (value_at c.algebra row.values j) (term (exps n) ring (basis_of r j)))
       (λ j h. ap₂ (λ v b. scale (exps n) ring v (term (exps n) ring b)) (get_or-values c.algebra row.values j) (ap (exp_of n) (same_default basis j (record { e = [] }) (in_eight []) h)))
 

@@ -1,5 +1,5 @@
 -- Tables of rows, one for each monomial in n variables: the linear map T that takes a monomial to the values of its row.
-use Rattle.std.specs.Prelude.{◌≡◌, ℕ, ◌<◌, List, ◌∷◌, map, get_or, length}
+use Rattle.std.specs.Prelude.{◌≡◌, ℕ, ◌<◌, List, ◌∷◌, map, length}
 use Rattle.std.specs.List.{AllByRecursion}
 use Rattle.ring_theory.specs.Scalars.{Meaning, sum_of}
 use Rattle.poly_law.specs.Sums.{unit_at}
@@ -11,7 +11,7 @@ use Rattle.jacobian_row.specs.Multiples.{product_to}
 use Rattle.jacobian_row.specs.Multipliers.{multiple_at}
 use Rattle.jacobian_row.specs.declared.multiple.Multiple.{Multiple}
 use Rattle.milnor_alg.specs.declared.quotient.TableRow.{TableRow}
-use Rattle.milnor_alg.specs.Rows.{row_of}
+use Rattle.milnor_alg.specs.Rows.{values_at}
 
 -- the values of the rows are valid elements
 abbrev pub AreValuesIn : {E V : Type 0} → Meaning E V → List (TableRow E) → Type 0
@@ -20,7 +20,7 @@ AreValuesIn m table = AllByRecursion (λ row. AllByRecursion m.is_elem row.value
 module _ {E V : Type 0} (m : Meaning E V) (n : ℕ) (table : List (TableRow E)) where
   -- the value of T at a monomial in place j, counted from 0
   abbrev pub value_in : ExpList n → ℕ → V
-  value_in a j = get_or (map m.value (row_of n table a).values) j m.scalars.ops.zero
+  value_in a j = values_at m n table a j
 
   -- the summands of the value of T at f in place j: each coefficient times the value at its monomial
   abbrev pub image_products : ℕ → Polynomial n V → List V

@@ -23,7 +23,7 @@ use Rattle.determinacy.specs.declared.row.MatherRow.{MatherRow}
 use Rattle.determinacy.specs.Tests.{IsMonomialIn}
 use Rattle.normal_forms.specs.Monomials.{monomials_in}
 use Rattle.cert_text.specs.declared.report.Carried.{Carried}
-use Rattle.cert_text.specs.WellFormed.{IsWellFormedCarried, IsWellFormedRow, AreRows, is_monomial_in, is_residual_monomial, is_zero_element, IsWellFormedLimit}
+use Rattle.cert_text.specs.WellFormed.{IsWellFormedCarried, IsWellFormedRow, AreRows, is_monomial_in, is_residual_monomial, is_zero_element}
 use Rattle.cert_text.specs.WellFormed as text
 use Rattle.report_law.specs.Polynomials.{terms_in, jet_at}
 use Rattle.report_law.specs.Items.{residual_of, IsRowOf, AreMatherRows}

@@ -1,6 +1,6 @@
 -- A jet of the program is the jet of each polynomial that it agrees with up to its order, as one list of terms.
 use mathlib.Core.Path.{fun_ext}
-use Rattle.std.proofs.Common.{◌≡◌, ◌≢◌, ℕ, zero, suc, ◌≤◌, ◌<◌, ◌⊎◌, inl, inr, Bool, true, false, ◌&&◌, ◌||◌, eqb, ltb, List, [], ◌∷◌, map, get_or, sum, refl, sym, ap, ap₂, subst, ◌∙◌, arith}
+use Rattle.std.proofs.Common.{◌≡◌, ◌≢◌, ℕ, zero, suc, ◌≤◌, ◌⊎◌, inl, inr, Bool, true, false, ◌&&◌, ◌||◌, eqb, ltb, List, [], ◌∷◌, map, get_or, sum, refl, sym, ap, ap₂, subst, ◌∙◌, arith}
 use Rattle.std.specs.List.{All}
 use Rattle.std.proofs.lemmas.List.Elements.{All-head, All-tail}
 use Rattle.std.proofs.lemmas.Bool.{lt-ltb, ltb-true}
@@ -24,7 +24,7 @@ use Rattle.jet_poly.specs.Jets.{IsJet}
 use Rattle.jet_subst.specs.Parts.{jet_at, part_of}
 use Rattle.germ_law.proofs.Canonical.{stands_before, is_order, HasDegreeTo, one_jet, jet_rising, jet_has_no_zero, jet_is_cut, jet_same_to}
 use Rattle.coord_change.specs.declared.change.Change.{Change}
-use Rattle.coord_change.specs.Moves.{Move, move_from, put}
+use Rattle.coord_change.specs.Moves.{move_from, put}
 use Rattle.coord_change.specs.Carries.{carry}
 use Rattle.coord_change.specs.MoveJets.{IsJetFor}
 

@@ -2,8 +2,7 @@
 use Rattle.std.proofs.Common.{◌≡◌, ℕ, zero, suc, ◌+◌, ◌<◌, ◌≤◌, ◌⊎◌, inl, inr, Bool, true, eqb, eqb-true, List, [], ◌∷◌, ◌++◌, map, length, get_or, take, take_all, length-append, length-take-le, All, refl, sym, ap, ap₂, subst, ◌∙◌, arith}
 use Rattle.std.proofs.lemmas.List.{take_more}
 use Rattle.ring_theory.specs.Scalars.{Scalars, ScalarLaws, Meaning}
-use Rattle.ring_theory.proofs.ValueSet.{values_are_set}
-use Rattle.poly_law.specs.Polynomials.{Polynomial, SameToIn, StartsAtIn, HaveNoConstant, substitute}
+use Rattle.poly_law.specs.Polynomials.{Polynomial, StartsAtIn}
 use Rattle.poly_law.proofs.LawsOverRings as over_rings
 use Rattle.jet_law.specs.Terms.{poly_of}
 use Rattle.jet_law.specs.Canonical.{jet}
@@ -13,12 +12,12 @@ use Rattle.jet_subst.proofs.PowerLemmas.{at-append, at-last}
 use Rattle.jet_subst.proofs.Tables.{at-map, length-mapped}
 use Rattle.coord_change.specs.declared.change.Change.{Change}
 use Rattle.coord_change.specs.Changes.{IsChange}
-use Rattle.coord_change.specs.Moves.{Move, move_from, put}
-use Rattle.coord_change.specs.Carries.{carry, carry_all, compose, compose_all, composite}
-use Rattle.coord_change.specs.CarryHeights.{IsCarryHigh, IsCarryAllHigh, IsComposeHigh, IsComposeAllHigh, IsCompositeHigh}
+use Rattle.coord_change.specs.Moves.{Move, move_from}
+use Rattle.coord_change.specs.Carries.{carry, carry_all}
+use Rattle.coord_change.specs.CarryHeights.{IsCarryHigh, IsCarryAllHigh}
 use Rattle.coord_change.specs.MoveJets.{IsJetFor, IsMoveExactly}
 use Rattle.coord_change.specs.Chains.{ChainParts, IsMoveFrom, AreMoves, IsChain, AreCarried}
-use Rattle.coord_change.proofs.Canonicals.{jet_of_same, jet-jet}
+use Rattle.coord_change.proofs.Canonicals.{jet-jet}
 
 take-front : {X : Type 0} (i : ℕ) (xs : List X) (y : X) → i ≤ length xs → take i (xs ++ y ∷ []) ≡ take i xs
 take-front zero xs y h = refl

@@ -1,5 +1,5 @@
 -- The composite of the moves of several changes.
-use Rattle.std.proofs.Common.{◌≡◌, ℕ, zero, suc, ◌+◌, ◌*◌, ◌<◌, ◌≤◌, ◌⊎◌, inl, inr, List, [], ◌∷◌, map, length, get_or, take, take_all, ext_get_or, All, refl, sym, ap, ap₂, subst, ◌∙◌, arith}
+use Rattle.std.proofs.Common.{◌≡◌, ℕ, zero, suc, ◌+◌, ◌*◌, ◌<◌, ◌≤◌, inl, inr, List, [], ◌∷◌, map, length, get_or, take, take_all, ext_get_or, All, refl, sym, ap, ap₂, subst, ◌∙◌, arith}
 use Rattle.ring_theory.specs.Scalars.{Scalars, ScalarLaws, Meaning}
 use Rattle.ring_theory.proofs.ValueSet.{values_are_set}
 use Rattle.poly_law.specs.ExpList.{exps}
@@ -21,7 +21,7 @@ use Rattle.coord_change.specs.declared.change.Change.{Change}
 use Rattle.coord_change.specs.Changes.{IsChange, entry_of, IsMatrixHigh, IsCompositionHigh}
 use Rattle.coord_change.specs.Moves.{Move, move_from, put, variable_of, identity, linear_part}
 use Rattle.coord_change.specs.Carries.{carry, compose, compose_all, composite}
-use Rattle.coord_change.specs.CarryHeights.{IsCarryHigh, IsComposeHigh, IsComposeAllHigh, IsCompositeHigh}
+use Rattle.coord_change.specs.CarryHeights.{IsComposeHigh, IsComposeAllHigh, IsCompositeHigh}
 use Rattle.coord_change.specs.Inverses.{IsInverseMatrix}
 use Rattle.coord_change.specs.MoveJets.{IsMoveExactly}
 use Rattle.coord_change.proofs.Canonicals

@@ -6,7 +6,7 @@ use Rattle.std.proofs.lemmas.Bool.Decides.{nat_tests}
 use Rattle.std.proofs.lemmas.List.{map-append}
 use Rattle.std.proofs.lemmas.List.Elements.{All-append, All-head, All-tail, recursion_from_All, All-take}
 use Rattle.ring_theory.specs.Ring.{RingOps, IsCommRing}
-use Rattle.ring_theory.specs.Scalars.{Scalars, ScalarLaws, Meaning}
+use Rattle.ring_theory.specs.Scalars.{ScalarLaws, Meaning}
 use Rattle.poly_law.specs.Exps.{degree}
 use Rattle.poly_law.specs.ExpList.{ExpList, exps}
 use Rattle.poly_law.specs.Poly.{coefficient}

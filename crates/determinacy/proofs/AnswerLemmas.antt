@@ -7,7 +7,7 @@ use Rattle.ring_theory.specs.Scalars.{Meaning}
 use Rattle.poly_law.proofs.Sums
 use Rattle.mono_exp.specs.declared.exponent.Exp.{Exp}
 use Rattle.mono_exp.specs.Exponents.{IsIn, exponents, rank_of}
-use Rattle.lin_row.specs.Lines.{AllBelow, AllUnits, IsRising, dot}
+use Rattle.lin_row.specs.Lines.{dot}
 use Rattle.lin_row.specs.System.{combination, dot_at}
 use Rattle.lin_row.proofs.LineLaws
 use Rattle.lin_row.specs.declared.row.Solution.{Solution}

@@ -1,6 +1,6 @@
 -- Jets and changes over the rational numbers, over the algebra of the rational numbers.
 use mathlib.Core.Path.{fun_ext}
-use Rattle.std.proofs.Common.{◌≡◌, ℕ, ◌*◌, ◌+◌, ◌<◌, List, [], ◌∷◌, ◌++◌, map, length, get_or, take, refl, sym, ap, ap₂, subst, ◌∙◌, arith}
+use Rattle.std.proofs.Common.{◌≡◌, ℕ, ◌*◌, ◌+◌, ◌<◌, List, [], ◌∷◌, ◌++◌, map, length, get_or, take, refl, sym, ap, ap₂, subst, ◌∙◌}
 use Rattle.std.specs.List.{All}
 use Rattle.std.proofs.lemmas.List.{length-map, take_more, map-append}
 use Rattle.ring_theory.specs.Rational.{Rational}
@@ -49,15 +49,6 @@ unfolding value_in
 value_is q = refl
 
 -- ---- what is made so far
-
-none_all : {X : Type 0} (P : X → Type 0) → All P []
-none_all P i x h = absurd (omega arith)
-
-pub no_parts : (c : Change Frac) → AreLiftedParts c [] []
-no_parts c = record { jets = none_all (IsPart (algebra_meaning algebras.Rational) c.n); orders = none_all (λ (p : JetTerms (Ext Frac)). p.order ≡ c.order); polynomials = refl }
-
-pub no_entries : AreLiftedEntries [] []
-no_entries = record { elems = none_all (IsElement algebras.Rational); values = refl }
 
 all_append : {X : Type 0} (P : X → Type 0) (xs : List X) (x : X) → All P xs → P x → All P (xs ++ x ∷ [])
 all_append P xs x a p = all-push P xs x a p

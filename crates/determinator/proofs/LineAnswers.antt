@@ -31,10 +31,9 @@ use Rattle.line_syntax.proofs.OneLine.{one_line}
 use Rattle.line_jet_law.specs.LineJets.{order_limit, IsRationalJet, rational_polynomial}
 use Rattle.line_jet.specs.Reads.{order_of, IsReadHigh}
 use Rattle.line_germ.specs.Names.{name_of}
-use Rattle.line_germ.specs.Reads.{IsLineGerm, IsSyntaxAt, IsLiteralAt, IsLinearIn}
+use Rattle.line_germ.specs.Reads.{IsLineGerm, IsLiteralAt, IsLinearIn}
 use Rattle.line_germ.specs.declared.reading.Germ.{Germ}
 use Rattle.poly_text.specs.declared.name.Name.{Name}
-use Rattle.poly_text.specs.declared.what.What.{What}
 use Rattle.poly_text.specs.Polynomials.{name_text}
 use Rattle.cert_text.specs.declared.report.Answer.{Answer}
 use Rattle.cert_text.specs.declared.report.Answer.TheVariants as answers
@@ -44,7 +43,7 @@ use Rattle.cert_text.specs.declared.report.Phase.{Phase}
 use Rattle.cert_text.specs.WellFormed.{is_valid_name}
 use Rattle.report_law.specs.Items.{IsShape}
 use Rattle.report_law.specs.Right.{IsWithin}
-use Rattle.report_law.proofs.Exclusions.{small_excludes, grammar_excludes, critical_excludes}
+use Rattle.report_law.proofs.Exclusions.{small_excludes, critical_excludes}
 use Rattle.report_law.proofs.Names.{line_names, linear_valid, names_of_words, words_of_names}
 use Rattle.report_jet.proofs.OneJet
 use Rattle.plan_law.specs.Outcomes.{Outcome}
@@ -58,13 +57,6 @@ use Rattle.determinator.specs.Reports.{AreNames, IsCarriedGerm, IsReport}
 use Rattle.determinator.specs.Starts.{IsGermJet, IsJetOfGerm}
 
 -- ---- refusals
-
-pub syntax_good : (bytes : List ℕ) (limit column : ℕ) (w : What) → length bytes ≤ 65536 → IsSyntaxAt bytes column w → IsGood bytes limit (answers.Syntax column w)
-syntax_good bytes limit column w short h = record {
-  well_formed = let inside = h.error.within in let at = h.column_is in omega arith;
-  right = h;
-  planned = λ l k. absurd (grammar_excludes bytes column w l k.spells h);
-}
 
 pub literal_good : (bytes : List ℕ) (limit column : ℕ) → length bytes ≤ 65536 → IsLiteralAt bytes column → IsGood bytes limit (answers.Literal column)
 literal_good bytes limit column short h = record {

@@ -39,12 +39,6 @@ pub at_jet : {E V : Type 0} (m : Meaning E V) (n k : ℕ) (p : Polynomial n V) (
 at_jet m n k p f h P q =
     subst (λ w. P n k w) h.polynomial (subst (λ j. P n j (poly_of n m.value f.terms)) h.order (subst (λ z. P z f.order (poly_of z m.value f.terms)) h.variables q))
 
--- what holds of its polynomial, holds of the jet
-pub from_jet : {E V : Type 0} (m : Meaning E V) (n k : ℕ) (p : Polynomial n V) (f : JetTerms E) → IsJetFor m n k p f → (P : (z : ℕ) → ℕ → Polynomial z V → Type 0)
-    → P n k p → P f.n f.order (poly_of f.n m.value f.terms)
-from_jet m n k p f h P q =
-    subst (λ z. P z f.order (poly_of z m.value f.terms)) (sym h.variables) (subst (λ j. P n j (poly_of n m.value f.terms)) (sym h.order) (subst (λ w. P n k w) (sym h.polynomial) q))
-
 -- a chain at some place stands over the algebra
 pub standing_of : (c : ℕ) (a : Algebra) (chain : ChainParts (Ext Frac)) → IsPlaced c a chain → IsStanding (algebra_meaning a) chain
 standing_of c a chain h = record { n = h.n; last = h.last; germ = lifted a h.germ; o = h.o; moves = h.moves; is = h.is.chain_is }

@@ -1,27 +1,18 @@
 //! Parts of a carried jet: the coefficients of its squares, and its residual part.
 
-ghost use Rattle.std.specs.Prelude.{◌≡◌, ◌-◌, ◌<◌, ◌≤◌, IfOk, All, map, length};
+ghost use Rattle.std.specs.Prelude.{◌≡◌, ◌-◌, ◌≤◌, IfOk, All, map, length};
 ghost use Rattle.ring_law.specs.Refusals.{OnFault};
 ghost use Rattle.jet_law.specs.Terms.{poly_of};
 ghost use Rattle.jet_poly.specs.Jets.{IsJet};
-ghost use Rattle.normal_forms.specs.Monomials.{is_residual as is_residual_of, square_of, residual_terms as residual_terms_of};
+ghost use Rattle.normal_forms.specs.Monomials.{residual_terms as residual_terms_of};
 ghost use Rattle.move_law.specs.Split.{squares_in};
 ghost use Rattle.determinator.specs.Jets.{IsListed, residual_jet};
 
 use jet_poly::{Jet, JetOf, coef};
 use mono_exp::Exp;
+use normal_forms::{is_residual_monomial, square};
 use ring_law::{Fault, Ring};
 use std::alloc::{AllocError, Global};
-
-// The square of the variable with this number, counted from 0.
-fn square(variable: u8) -> Exp
-    requires { variable < 8 }
-    ensures { result ≡ square_of variable }
-{
-    let mut e = [0; 8];
-    e[variable as usize] = 2;
-    Exp { e }
-}
 
 /// The coefficients of the squares of the variables from the corank on.
 pub fn squares_of<R: Ring>(
@@ -43,13 +34,6 @@ pub fn squares_of<R: Ring>(
         squares.push(coef(ring, f, square(corank + k)))?;
     }
     Ok(squares)
-}
-
-// True where the monomial has none of the variables past the first c.
-fn is_residual(c: u8, m: Exp) -> bool
-    ensures { result ≡ is_residual_of c m }
-{
-    m.e.iter().skip(usize::from(c)).all(|e| *e == 0)
 }
 
 // A monomial has eight exponents.
@@ -86,7 +70,7 @@ fn residual_terms<E: Copy>(
 {
     let mut kept = Vec::new(alloc);
     for t in terms {
-        if is_residual(c, t.0) {
+        if is_residual_monomial(c, t.0) {
             kept.push(*t)?;
         }
     }

@@ -7,12 +7,11 @@ use Rattle.ring_law.specs.declared.fraction.Op.TheVariants.{Root}
 use Rattle.ext_theory.specs.Extension.{Quadratic, Cubic, cubic_at, quadratic_lift}
 use Rattle.small_frac.specs.Exact.{IsSquareRoot}
 use Rattle.ext_theory.specs.Roots.{HasNoRoot}
-use Rattle.small_frac.specs.Roots.{IsLeastRootFrac, cubic_root_height}
+use Rattle.small_frac.specs.Roots.{IsLeastRootFrac, cubic_of, cubic_root_height}
 use Rattle.ext_algebra.specs.declared.algebra.Ext.{Ext}
 use Rattle.ext_algebra.specs.declared.algebra.Triple.{Triple}
 use Rattle.ext_algebra.specs.declared.field.ExtError.{ExtError}
 use Rattle.ext_algebra.specs.declared.field.ExtError.TheVariants as error
-use Rattle.ext_algebra.specs.Algebra.{cubic_modulus}
 use Rattle.ext_algebra.specs.ExtRing.{IsExt, ext_value, triple_value}
 
 -- all six components are valid fractions
@@ -43,6 +42,6 @@ IsNested = IsExt IsPair pair_of (quadratic_lift rational_ops rational_ops.zero) 
 -- why a tower is no field here: the least root of its modulus; without a root, the square root of d that is not negative; or the refusal
 -- of the search for a root, which names m2 and m0
 abbrev pub IsTowerErrorOf : Frac → Frac → Frac → Frac → ExtError → Type 0
-IsTowerErrorOf m2 m1 m0 d (error.Reducible x) = IsLeastRootFrac (cubic_at rational_ops (cubic_modulus m2 m1 m0)) x
-IsTowerErrorOf m2 m1 m0 d (error.Square x) = HasNoRoot (cubic_at rational_ops (cubic_modulus m2 m1 m0)) × IsSquareRoot x d
-IsTowerErrorOf m2 m1 m0 d (error.Range e) = (e ≡ record { a = m2; b = m0; op = Root }) × (2 ^ 120 ≤ cubic_root_height (cubic_modulus m2 m1 m0))
+IsTowerErrorOf m2 m1 m0 d (error.Reducible x) = IsLeastRootFrac (cubic_at rational_ops (cubic_of m2 m1 m0)) x
+IsTowerErrorOf m2 m1 m0 d (error.Square x) = HasNoRoot (cubic_at rational_ops (cubic_of m2 m1 m0)) × IsSquareRoot x d
+IsTowerErrorOf m2 m1 m0 d (error.Range e) = (e ≡ record { a = m2; b = m0; op = Root }) × (2 ^ 120 ≤ cubic_root_height (cubic_of m2 m1 m0))

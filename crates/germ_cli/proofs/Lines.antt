@@ -5,7 +5,7 @@ use Rattle.cert_text.specs.declared.report.Report.{Report}
 use Rattle.germ_cli.specs.Answers.{IsAnswerText}
 use Rattle.line_io.specs.LineSoFar.{IsUnbroken}
 use Rattle.determinator.specs.Lines.{IsAnswer}
-use Rattle.std.proofs.Common.{◌≡◌, ℕ, suc, ◌^◌, ◌<◌, Bool, true, false, not, List, [], ◌∷◌, length, get_or, Fits, w8, refl, lt-ltb}
+use Rattle.std.proofs.Common.{◌≡◌, ℕ, suc, Bool, true, false, not, List, [], ◌∷◌, get_or, Fits, w8, refl, lt-ltb}
 use Rattle.std.proofs.lemmas.Bool.{ne_eqb}
 use Rattle.std.specs.List.{list_all}
 use Rattle.std.specs.Prelude.{◌&&◌, ◌==◌, nat_lt, Result, Ok, Err, IfOk}
@@ -24,10 +24,6 @@ plain [] fits unbroken = refl
 plain (b ∷ bs) fits unbroken =
     both (nat_lt b 256 && not (b == 10)) (list_all (λ c. nat_lt c 256 && not (c == 10)) bs) (both (nat_lt b 256) (not (b == 10)) (lt-ltb b 256 (fits 0).fits) (not_of (b == 10) (ne_eqb b 10 unbroken.0)))
     (plain bs (λ i. fits (suc i)) unbroken.1)
-
--- the too-long report answers a line of more than 65,536 bytes
-pub too_long_is_answer : (limit n : ℕ) (line : List ℕ) → n < 2 ^ 64 → n ≡ length line → 65536 < length line → IsAnswer limit line (reports.Long n)
-too_long_is_answer limit n line fits is above = record { right = record { well_formed = fits; truthful = (is, above) }; planned = tt }
 
 -- what was written for an answer is its text
 pub text_of : {E T : Type 0} (items : T → List ℕ) (limit : ℕ) (line : List ℕ) (report : Report) (result : Result T E) → IsAnswer limit line report → IfOk result (λ text. items text ≡ report_text report)

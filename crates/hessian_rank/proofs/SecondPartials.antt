@@ -1,6 +1,6 @@
 -- The second partials at 0: how a substitution changes them.
 use mathlib.Core.Path.{fun_ext}
-use Rattle.std.proofs.Common.{◌≡◌, ℕ, zero, suc, ◌+◌, ◌<◌, ◌≤◌, [], ◌∷◌, ◌++◌, ap, ap₂, sym, ◌∙◌, refl, arith}
+use Rattle.std.proofs.Common.{◌≡◌, ℕ, zero, ◌<◌, [], ap, ap₂, sym, ◌∙◌, refl, arith}
 use Rattle.ring_theory.specs.Ring.{RingOps, IsCommRing}
 use Rattle.poly_law.specs.Sums.{sum_to}
 use Rattle.poly_law.specs.Exps.{Exps, IsExps, plus, none, variable}

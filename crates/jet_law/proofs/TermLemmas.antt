@@ -3,12 +3,11 @@ use Rattle.std.proofs.Common.{◌≡◌, ℕ, zero, suc, ◌+◌, ◌-◌, ◌<�
 use Rattle.std.proofs.lemmas.List.{get_or-set_same, get_or-set_other, take_more, map-append}
 use Rattle.poly_law.specs.Exps.{nat_sum_to, plus, lower, degree}
 use Rattle.poly_law.specs.ExpList.{exps}
-use Rattle.poly_law.proofs.ExpLists.{exps_are, same_entries}
+use Rattle.poly_law.proofs.ExpLists.{exps_are}
 use Rattle.poly_law.proofs.ExpLaws
 use Rattle.mono_exp.specs.declared.exponent.Exp.{Exp}
-use Rattle.mono_exp.specs.Exponents.{exponents, IsIn, IsProduct, rank_of}
+use Rattle.mono_exp.specs.Exponents.{exponents, IsIn, IsProduct}
 use Rattle.mono_exp.proofs.Lists.{sum-cons}
-use Rattle.mono_exp.proofs.Counting.{place-injective, rank_is_place}
 use Rattle.mono_exp.proofs.NumberLemmas.{length-exponents, sum-exponents}
 use Rattle.jet_law.specs.Terms.{exp_of, poly_of}
 
@@ -63,14 +62,6 @@ exp_of-lower n w a d h q = (exps_are n).same_at (exp_of n d) (lower (exps n) w (
     ∙ set-at a.e w (get_or a.e w 0 - 1) i h
     ∙ cond_at (eqb i w) i w (λ i. get_or a.e i 0) refl
     ∙ sym (ExpLaws.at-lower (exps n) (exps_are n) w (exp_of n a) i g ∙ ap (λ z. cond (eqb i w) (z - 1) z) (at-exp_of n a i g))
-
--- monomials of one number are equal
-pub same_rank : (n : ℕ) (a b : Exp) → rank_of n (exponents n a.e) ≡ rank_of n (exponents n b.e) → exp_of n a ≡ exp_of n b
-same_rank n a b e =
-    let la = length-exponents n a.e in
-    let lb = length-exponents n b.e in
-    same_entries n (exp_of n a) (exp_of n b)
-    (place-injective (exponents n a.e) (exponents n b.e) (la ∙ sym lb) (sym (rank_is_place n (exponents n a.e) la) ∙ e ∙ rank_is_place n (exponents n b.e) lb))
 
 module _ {E V : Type 0} (n : ℕ) (value : E → V) where
   -- the polynomial of one term more

@@ -82,16 +82,6 @@ before-equal a b h =
 pub all-more : (k : ℕ) (p : ℕ → Bool) → all_to k p ≡ true → p k ≡ true → all_to (k + 1) p ≡ true
 all-more k p h e = rw add-one (ap₂ (λ a b. a && b) h e)
 
-all-fails : (k : ℕ) (p : ℕ → Bool) (i : ℕ) → i < k → p i ≡ false → all_to k p ≡ false
-all-fails k p i h e = step (all_to k p) refl
-  where
-    step : (b : Bool) → all_to k p ≡ b → b ≡ false
-    step false q = refl
-    step true q = let bad : ⊥ = contradiction (sym (ExpLaws.all_to_at k p q i h) ∙ e) in absurd bad
-      where
-        contradiction : true ≡ false → ⊥
-        contradiction z = cc z
-
 all-same : (k : ℕ) (p q : ℕ → Bool) → ((i : ℕ) → i < k → p i ≡ q i) → all_to k p ≡ all_to k q
 all-same zero p q h = refl
 all-same (suc k) p q h = ap₂ (λ a b. a && b) (all-same k p q (λ i g. h i (omega arith))) (h k (omega arith))
@@ -99,9 +89,6 @@ all-same (suc k) p q h = ap₂ (λ a b. a && b) (all-same k p q (λ i g. h i (om
 -- the test place by place
 pub same-places : (a b : Exp) → all_to 8 (λ i. eqb (get_or a.e i 0) (get_or b.e i 0)) ≡ same (exps 8) (exp_of 8 a) (exp_of 8 b)
 same-places a b = all-same 8 (λ i. eqb (get_or a.e i 0) (get_or b.e i 0)) (λ i. eqb ((exps 8).at (exp_of 8 a) i) ((exps 8).at (exp_of 8 b) i)) λ i h. ap₂ eqb (sym (at-exp_of 8 a i h)) (sym (at-exp_of 8 b i h))
-
-pub same-fails : (a b : Exp) (i : ℕ) → i < 8 → eqb (get_or a.e i 0) (get_or b.e i 0) ≡ false → same (exps 8) (exp_of 8 a) (exp_of 8 b) ≡ false
-same-fails a b i h e = sym (same-places a b) ∙ all-fails 8 (λ i. eqb (get_or a.e i 0) (get_or b.e i 0)) i h e
 
 two_cases : (p q r : Bool) → (p || (q && r)) ≡ true → (p ≡ true) ⊎ ((q ≡ true) × (r ≡ true))
 two_cases true q r h = inl refl

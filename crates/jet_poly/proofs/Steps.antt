@@ -68,12 +68,6 @@ lookup-elem is_elem test (s ∷ sums) a = step (test s.0) (lookup-elem is_elem t
     step true r = a.0
     step false r = r
 
-pub none-gathered : {E V : Type 0} (n k : ℕ) (m : Meaning E V) (sums : List (ℕ × E)) → sums ≡ [] → IsGathered n k m sums
-none-gathered n k m sums e = subst (IsGathered n k m) (sym e) (record { numbers = tt; elems = tt; distinct = none })
-  where
-    none : IsDistinct nat_eq []
-    none = Rattle.std.proofs.lemmas.Map.Keys.IsDistinct-from_apart nat_eq [] (λ i j d h g. absurd (omega arith))
-
 module _ {E V : Type 0} (n k : ℕ) (m : Meaning E V) (laws : ScalarLaws m.scalars) where
   -- what stands at a monomial
   pub there : (sums : List (ℕ × E)) (a : Exp) (number : ℕ) (o : Option E) → k ≤ 17 → IsGathered n k m sums → number ≡ rank_of n (exponents n a.e) → number < length (monomials_below n 18)

@@ -30,16 +30,15 @@ use Rattle.jacobian_row.specs.Multiples.{multiple_to}
 use Rattle.jacobian_row.specs.declared.multiple.Multiple.{Multiple}
 use Rattle.jacobian_row.proofs.MultipleOrder.{Pairwise, pairwise-filter, pairwise-at}
 use Rattle.jacobian_row.proofs.MultiplierLemmas
-use Rattle.jacobian_row.proofs.MultiplierLemmas.{jet_of}
 use Rattle.jacobian_row.proofs.RowFacts
 use Rattle.jacobian_row.proofs.Combinations
 use Rattle.determinacy.specs.Tests.{IsMonomialIn, IsJetOf}
 use Rattle.determinacy.proofs.FailureLemmas.{degree_below}
 use Rattle.milnor_alg.specs.declared.quotient.TableRow.{TableRow}
 use Rattle.milnor_alg.specs.declared.quotient.JetQuotient.{JetQuotient}
-use Rattle.milnor_alg.specs.Rows.{no_row, row_of}
+use Rattle.milnor_alg.specs.Rows.{basis_at, no_row, row_of, values_at}
 use Rattle.jet_quotient.specs.Answers.{number_of, begins_at, IsRowBy, AreRowsBy}
-use Rattle.jet_quotient.specs.Quotients.{basis_at, values_at, multipliers_at, IsTableRow, AreSomeMonomials, IsQuotientOf}
+use Rattle.jet_quotient.specs.Quotients.{multipliers_at, IsTableRow, AreSomeMonomials, IsQuotientOf}
 use Rattle.jacobian_row.proofs.MonomialLists
 use Rattle.jet_quotient.proofs.CallFacts.{rows-count}
 use Rattle.jet_quotient.proofs.TableFacts

@@ -1,5 +1,5 @@
 -- What the quotient answers, and when it is refused.
-use Rattle.std.specs.Prelude.{◌≡◌, ℕ, ◌+◌, ◌⊎◌, Bool, List, [], map, filter, length, get_or}
+use Rattle.std.specs.Prelude.{◌≡◌, ℕ, ◌+◌, ◌⊎◌, Bool, List, map, filter, length}
 use Rattle.std.specs.List.{AllByRecursion}
 use Rattle.ring_theory.specs.Scalars.{Scalars, Meaning}
 use Rattle.poly_law.specs.ExpList.{ExpList, exps}
@@ -18,15 +18,7 @@ use Rattle.jacobian_row.specs.Rows.{IsPartialHigh, polynomial_at}
 use Rattle.determinacy.specs.Tests.{IsMonomialIn, IsJetOf}
 use Rattle.milnor_alg.specs.declared.quotient.TableRow.{TableRow}
 use Rattle.milnor_alg.specs.declared.quotient.JetQuotient.{JetQuotient}
-use Rattle.milnor_alg.specs.Rows.{row_of}
-
--- the monomials of the basis, by number
-abbrev pub basis_at : (n : ℕ) → List Exp → ℕ → ExpList n
-basis_at n basis j = exp_of n (get_or basis j (record { e = [] }))
-
--- the values of a monomial, one for each monomial of the basis
-abbrev pub values_at : {E V : Type 0} → Meaning E V → (n : ℕ) → List (TableRow E) → ExpList n → ℕ → V
-values_at m n table b j = get_or (map m.value (row_of n table b).values) j m.scalars.ops.zero
+use Rattle.milnor_alg.specs.Rows.{basis_at, row_of, values_at}
 
 -- the multipliers of a monomial, one for each partial
 abbrev pub multipliers_at : {E V : Type 0} → Meaning E V → (n : ℕ) → List (TableRow E) → ExpList n → ℕ → Polynomial n V

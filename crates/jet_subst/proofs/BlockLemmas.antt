@@ -1,7 +1,7 @@
 -- The terms of one degree of a substitution, and their heights.
-use Rattle.std.proofs.Common.{◌≡◌, ◌≢◌, ℕ, zero, suc, ◌+◌, ◌<◌, ◌≤◌, ◌^◌, ◌⊎◌, inl, inr, Bool, true, false, cond, eqb, eqb-true, eq-eqb, leb, List, [], ◌∷◌, ◌++◌, map, flat_map, length, get_or, take, sum, All, Contains, refl, sym, ap, ap₂, ◌∙◌, subst, append-nil, arith}
+use Rattle.std.proofs.Common.{◌≡◌, ℕ, zero, suc, ◌+◌, ◌<◌, ◌≤◌, ◌^◌, ◌⊎◌, inl, inr, Bool, true, false, cond, eqb, eqb-true, leb, List, [], ◌∷◌, ◌++◌, map, flat_map, length, get_or, take, sum, All, Contains, refl, sym, ap, ap₂, ◌∙◌, subst, append-nil, arith}
 use Rattle.std.specs.List.{filter}
-use Rattle.std.proofs.lemmas.List.Elements.{filter-append, All-filter}
+use Rattle.std.proofs.lemmas.List.Elements.{filter-append}
 use Rattle.std.proofs.lemmas.List.{map-append}
 use Rattle.ring_theory.specs.Ring.{IsCommRing}
 use Rattle.ring_theory.specs.Height.{most}
@@ -23,7 +23,7 @@ use Rattle.jet_poly.specs.JetTerms.{JetTerms}
 use Rattle.jet_poly.specs.Jets.{component}
 use Rattle.jet_poly.proofs.KeptTerms.{filtered-by}
 use Rattle.jet_subst.specs.Powers.{IsReduced, IsTruncation}
-use Rattle.jet_subst.specs.Parts.{part_of, IsMultipleAmongHigh}
+use Rattle.jet_subst.specs.Parts.{part_of}
 use Rattle.jet_subst.specs.Blocks.{AddsBlock, AreBlocks}
 use Rattle.jet_subst.specs.KeptPowers.{KeepsParts}
 use Rattle.jet_subst.specs.declared.keeping.Kept.{Kept}

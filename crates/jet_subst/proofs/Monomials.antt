@@ -4,7 +4,7 @@ use Rattle.ring_theory.specs.Ring.{IsCommRing}
 use Rattle.ring_theory.specs.Scalars.{Scalars}
 use Rattle.poly_law.specs.Sums.{power}
 use Rattle.poly_law.specs.Exps.{Exps, IsExps, plus, none}
-use Rattle.poly_law.specs.Poly.{Terms, Same, times, constant, poly_ops, monomial_of}
+use Rattle.poly_law.specs.Poly.{Terms, times, constant, poly_ops, monomial_of}
 use Rattle.poly_law.proofs.ExpLaws
 use Rattle.poly_law.proofs.PolyRing
 use Rattle.poly_law.proofs.Subst

@@ -1,5 +1,5 @@
 -- The term that a step gives for an entry: what is taken for it, and what the tail of a lead leaves.
-use Rattle.std.proofs.Common.{◌≡◌, ◌≢◌, ℕ, zero, suc, ◌+◌, ◌<◌, ◌≤◌, ◌^◌, Bool, true, false, cond, List, [], ◌∷◌, ◌++◌, map, length, get_or, take, refl, sym, ap, ap₂, subst, ◌∙◌, append-nil, ◌*◌, ◌⊎◌, inl, inr, arith}
+use Rattle.std.proofs.Common.{◌≡◌, ℕ, zero, suc, ◌+◌, ◌<◌, ◌≤◌, ◌^◌, Bool, true, false, cond, List, [], ◌∷◌, ◌++◌, map, length, get_or, take, refl, sym, ap, ap₂, subst, ◌∙◌, append-nil, ◌*◌, ◌⊎◌, inl, inr, arith}
 use Rattle.std.specs.Prelude.{Some, None, Result, Ok, Err, OnOk, All, Contains, filter, filter_map, flat_map}
 use Rattle.ring_theory.specs.Scalars.{Meaning}
 use Rattle.poly_law.specs.ExpList.{ExpList, exps}

@@ -1,5 +1,5 @@
 -- The steps of a reduction in code are those of the definition.
-use Rattle.std.proofs.Common.{◌≡◌, ◌≢◌, ℕ, zero, suc, ◌+◌, ◌-◌, ◌*◌, ◌<◌, ◌≤◌, ◌⊎◌, inl, inr, Bool, true, false, ◌&&◌, cond, eqb, eqb-true, List, [], ◌∷◌, ◌++◌, map, length, get_or, take, drop, refl, sym, ap, ap₂, subst, ◌∙◌, append-nil, append_assoc, arith}
+use Rattle.std.proofs.Common.{◌≡◌, ℕ, zero, suc, ◌+◌, ◌-◌, ◌*◌, ◌<◌, ◌≤◌, ◌⊎◌, inl, inr, Bool, true, false, ◌&&◌, cond, eqb, eqb-true, List, [], ◌∷◌, ◌++◌, map, length, get_or, take, drop, refl, sym, ap, ap₂, subst, ◌∙◌, append-nil, append_assoc, arith}
 use Rattle.std.specs.Prelude.{Option, Some, None, All, filter, flat_map}
 use Rattle.std.specs.List.{AllByRecursion, list_all}
 use Rattle.std.proofs.lemmas.List.{map-append, length-map}
@@ -104,10 +104,6 @@ all-each Q R f (x ∷ xs) a (suc j) d g = all-each Q R f xs a.1 j d (omega arith
 pub all-weaker : {X : Type 0} (Q R : X → Type 0) → ((x : X) → Q x → R x) → (xs : List X) → AllByRecursion Q xs → AllByRecursion R xs
 all-weaker Q R f [] a = tt
 all-weaker Q R f (x ∷ xs) a = (f x a.0, all-weaker Q R f xs a.1)
-
-pub all-of : {X : Type 0} (Q : X → Type 0) (xs : List X) → All Q xs → AllByRecursion Q xs
-all-of Q [] a = tt
-all-of Q (x ∷ xs) a = (a 0 x (omega arith), all-of Q xs (λ j d g. a (suc j) d (omega arith)))
 
 -- ---- what holds between two rounds
 

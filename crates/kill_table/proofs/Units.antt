@@ -1,6 +1,5 @@
 -- Where the letters that the leads of a part are divided by are not zero, nor for J10 the discriminant, nothing that they are divided by is zero: by the table.
-use Rattle.std.proofs.Common.{◌≡◌, ◌≢◌, ℕ, zero, suc, ℤ, pos, negsuc, ◌*◌, ◌<◌, ◌≤◌, ◌⊎◌, inl, inr, Bool, true, false, ◌&&◌, eqb, eqb-true, ltb, ltb-true, List, [], ◌∷◌, drop, length, get_or, refl, sym, ap, ap₂, subst, ◌∙◌, arith}
-use Rattle.std.specs.Prelude.{Contains}
+use Rattle.std.proofs.Common.{◌≡◌, ◌≢◌, ℕ, zero, suc, ℤ, pos, negsuc, ◌*◌, ◌<◌, ◌≤◌, ◌⊎◌, inl, inr, Bool, true, false, ◌&&◌, eqb, eqb-true, ltb, ltb-true, List, [], ◌∷◌, drop, get_or, refl, sym, ap, ap₂, subst, ◌∙◌, arith}
 use Rattle.std.specs.List.{list_all}
 use Rattle.std.proofs.lemmas.Int.{ints}
 use Rattle.ring_theory.specs.Rational.{rational, rational_mul}
@@ -13,7 +12,6 @@ use Rattle.ring_formula.specs.Formulas.{formula_value, summand_value, multiplied
 use Rattle.kill_law.specs.declared.lead.Product.{Product}
 use Rattle.kill_law.specs.declared.lead.Divisor.{Divisor}
 use Rattle.kill_law.specs.declared.lead.Divisor.TheVariants as divisors
-use Rattle.kill_law.specs.declared.lead.Entry.{Entry}
 use Rattle.kill_law.specs.declared.lead.Lead.{Lead}
 use Rattle.kill_law.specs.declared.part.Part.{Part}
 use Rattle.kill_law.specs.declared.part.Part.TheVariants as parts
@@ -21,7 +19,7 @@ use Rattle.kill_law.specs.Table.{row}
 use Rattle.kill_law.specs.Kill.{divisor_value, summand_of}
 use Rattle.kill_law.specs.Leads.{entries_of}
 use Rattle.kill_law.proofs.LeadEquations.{and_left, and_right}
-use Rattle.kill_table.specs.Divisors.{HasNonzeroDivisors, HasUnits, UnitsAreEnough, letter, discriminant}
+use Rattle.kill_table.specs.Divisors.{HasNonzeroDivisors, UnitsAreEnough, letter, discriminant}
 use Rattle.kill_table.proofs.Table.{passes, only-in}
 
 -- ---- the table

@@ -1,5 +1,5 @@
 -- Systems of rows with pivots, made one row at a time.
-use Rattle.std.specs.Prelude.{◌≡◌, ◌≢◌, ℕ, zero, suc, ◌-◌, ◌<◌, ◌≤◌, List, [], ◌∷◌, ⊤, ◌⊎◌, cond, nat_lt, length, get_or}
+use Rattle.std.specs.Prelude.{◌≡◌, ◌≢◌, ℕ, zero, suc, ◌-◌, ◌<◌, ◌≤◌, List, [], ◌∷◌, ⊤, ◌⊎◌, cond, nat_lt}
 use Rattle.std.proofs.Common.{Vec, Global}
 use Rattle.ring_theory.specs.Scalars.{Scalars, Meaning}
 use Rattle.lin_row.specs.Lines.{EachOf, IsLine, IsRising, AllBelow, lead_of, dot, entry}
@@ -114,12 +114,6 @@ pub record Settles {E V : Type 0} (m : Meaning E V) (c : ℕ) (row old new : Lis
 abbrev pub ZeroAtPivots : {X V : Type 0} → Scalars V → List (ℕ × X) → (ℕ → V) → Type 0
 ZeroAtPivots s [] w = ⊤
 ZeroAtPivots s (p ∷ ps) w = (w p.0 ≡ s.ops.zero) × ZeroAtPivots s ps w
-
--- the first entry of a row, in a column below u
-pub record FirstBelow {E : Type 0} (u : ℕ) (row : List (ℕ × E)) (first : ℕ × E) : Type 0 where
-  pub some : 0 < length row
-  pub read : first ≡ get_or row 0 first
-  pub below : first.0 < u
 
 -- values at which the pivots' rows vanish, and the row is 1; there are none beyond the columns of the pivots and the row's first one
 pub record Excludes {E V : Type 0} (m : Meaning E V) (pivots : List (ℕ × List (ℕ × E))) (row values : List (ℕ × E)) : Type 0 where

@@ -5,7 +5,6 @@ use Rattle.line_io.proofs.Reading.{Consumes-kept, found_at, found_none, unbroken
 use Rattle.line_io.specs.ChunkSoFar.{ChunkSoFar}
 use Rattle.line_io.specs.Chunks.{chunks_of, has_end, is_end}
 use Rattle.line_io.specs.LineSoFar.{IsUnbroken}
-use Rattle.line_io.specs.Reading.{EndsAll}
 use Rattle.line_io.specs.ReadingChunks.{GivesChunk, HasNoChunk, IsChunkDecided, PassesChunkLimit, TakesAsNeeded}
 use Rattle.line_io.specs.declared.lines.Lines.{Lines}
 use Rattle.std.proofs.Common.{◌≡◌, ℕ, ◌+◌, ◌<◌, ◌≤◌, Bool, true, false, eqb, List, [], ◌∷◌, ◌++◌, length, length-append, take, drop, Some, None, inl, inr, refl, sym, ap, subst, ◌∙◌, append_assoc, arith}
@@ -173,32 +172,11 @@ gives_rest before mid after chunk held old new faults later bytes i same (unbrok
 
 -- ---- the other answers
 
-no_bytes : (xs : List ℕ) → length xs ≡ 0 → xs ≡ []
-no_bytes [] e = refl
-no_bytes (x ∷ xs) e = absurd (omega (arith, e))
-
 -- the bytes held and read, line by line
 pub number_of : (before mid : Lines) (chunk : ChunkSoFar) (old new : Option (List ℕ)) (faults later : ℕ) (i : Collects before mid chunk old new faults later)
     → length before.buffer + length i.more ≡ length (chunk.whole ++ chunk.last) + length mid.buffer
 number_of before mid chunk old new faults later i =
     sym (length-append before.buffer i.more) ∙ ap (λ (x : List ℕ). length x) i.parts ∙ length-append (chunk.whole ++ chunk.last) mid.buffer
-
-held_number : (chunk held : ChunkSoFar) (part : List ℕ) → held ≡ record { whole = chunk.whole; last = chunk.last ++ part } → length (held.whole ++ held.last) ≡ length (chunk.whole ++ chunk.last) + length part
-held_number chunk held part e = ap (λ (s : ChunkSoFar). length (s.whole ++ s.last)) e ∙ ap (λ (x : List ℕ). length x) (sym (append_assoc chunk.whole chunk.last part)) ∙ length-append (chunk.whole ++ chunk.last) part
-
--- nothing is held, and nothing was left
-pub ends_all : (before mid after : Lines) (chunk held : ChunkSoFar) (old new : Option (List ℕ)) (faults later : ℕ) → Collects before mid chunk old new faults later → FoundNone mid after chunk held → after.ended ≡ true
-    → length (held.whole ++ held.last) ≡ 0 → EndsAll before after old new
-ends_all before mid after chunk held old new faults later i (unbroken, empty, is_held) ended none =
-    let number = number_of before mid chunk old new faults later i in
-    let all = held_number chunk held mid.buffer is_held in
-    let P : List ℕ → Type 0 = λ x. Consumes old new x in
-    record {
-      read = subst P (no_bytes i.more (omega (arith, number, all, none))) i.read;
-      nothing_held = no_bytes before.buffer (omega (arith, number, all, none));
-      nothing_left = empty;
-      ended = ended;
-    }
 
 -- no line `end` is among the bytes held and read
 unended_so_far : (before mid : Lines) (chunk : ChunkSoFar) (old new : Option (List ℕ)) (faults later : ℕ) (i : Collects before mid chunk old new faults later) → IsUnbroken mid.buffer → has_end (before.buffer ++ i.more) ≡ false
@@ -241,28 +219,6 @@ passes_limit before mid after chunk old new next faults later taken i unbroken g
 }
 
 -- ---- what was read
-
-takes_of : (before mid after : Lines) (chunk : ChunkSoFar) (old new next : Option (List ℕ)) (faults later : ℕ) (more : List ℕ) → Consumes old next more → after.taken ≡ before.taken + length more
-    → NothingRead before mid old new faults later more ⊎ SomeRead before more → TakesAsNeeded before after old next
-takes_of before mid after chunk old new next faults later more read counted (inl r) =
-    let P : List ℕ → Type 0 = λ x. Consumes old next x in
-    let none : length more ≡ 0 = ap (λ (x : List ℕ). length x) r.none in
-    record { more = []; last = []; read = subst P r.none read; counted = omega (arith, counted, none); few = omega arith; needed = inl refl }
-takes_of before mid after chunk old new next faults later more read counted (inr r) =
-    let P : List ℕ → Type 0 = λ x. Consumes old next x in
-    record {
-      more = r.earlier;
-      last = r.last;
-      read = subst P r.split read;
-      counted = counted ∙ ap (λ (x : List ℕ). before.taken + length x) r.split;
-      few = r.few;
-      needed = inr r.unended;
-    }
-
--- nothing more was read
-pub takes_so_far : (before mid after : Lines) (chunk : ChunkSoFar) (old new next : Option (List ℕ)) (faults later : ℕ) → Collects before mid chunk old new faults later → after.taken ≡ mid.taken → Keeps new next → TakesAsNeeded before after old next
-takes_so_far before mid after chunk old new next faults later i same kept =
-    takes_of before mid after chunk old new next faults later i.more (Consumes-kept old new next i.more i.read kept) (same ∙ i.counted) i.reads
 
 -- one more read
 pub takes_more : (before mid after : Lines) (chunk : ChunkSoFar) (old new next : Option (List ℕ)) (faults later taken : ℕ) → Collects before mid chunk old new faults later → IsUnbroken mid.buffer → taken ≡ mid.taken
@@ -331,24 +287,6 @@ still_of before mid old new faults later more counted (inr r) sound in_memory sm
 pub still : (before mid : Lines) (chunk : ChunkSoFar) (old new : Option (List ℕ)) (faults later taken : ℕ) → Collects before mid chunk old new faults later
     → before.faulted ≡ false → before.out_of_memory ≡ false → before.taken ≤ 268435456 → taken ≡ mid.taken → IsChunkDecided before → taken ≡ before.taken
 still before mid chunk old new faults later taken i sound in_memory small same d = same ∙ still_of before mid old new faults later i.more i.counted i.reads sound in_memory small d
-
--- ---- where each byte taken went with an earlier chunk
-
-pub line_is_new : {A : Type 0} (before mid after : Lines) (chunk held : ChunkSoFar) (old new : Option (List ℕ)) (faults later : ℕ) → Collects before mid chunk old new faults later → Found mid after chunk held → after.taken ≡ mid.taken
-    → before.buffer ≡ [] → after.taken ≡ before.taken → A
-line_is_new before mid after chunk held old new faults later i (front, unbroken, buffer, is_held) same none still =
-    let number = number_of before mid chunk old new faults later i in
-    let empty : length before.buffer ≡ 0 = ap (λ (x : List ℕ). length x) none in
-    let full : length mid.buffer ≡ length (front ++ 10 ∷ []) + length after.buffer = ap (λ (x : List ℕ). length x) buffer ∙ length-append (front ++ 10 ∷ []) after.buffer in
-    absurd (omega (arith, number, empty, full, length-append front (10 ∷ []), same, still, i.counted))
-
-pub rest_is_new : {A : Type 0} (before mid after : Lines) (chunk held : ChunkSoFar) (old new : Option (List ℕ)) (faults later : ℕ) → Collects before mid chunk old new faults later → FoundNone mid after chunk held → after.taken ≡ mid.taken
-    → (length (held.whole ++ held.last) ≡ 0 → ⊥) → before.buffer ≡ [] → after.taken ≡ before.taken → A
-rest_is_new before mid after chunk held old new faults later i (unbroken, empty, is_held) same some none still =
-    let number = number_of before mid chunk old new faults later i in
-    let all = held_number chunk held mid.buffer is_held in
-    let nothing : length before.buffer ≡ 0 = ap (λ (x : List ℕ). length x) none in
-    absurd (some (omega (arith, number, all, nothing, same, still, i.counted)))
 
 -- ---- the bytes held go into the chunk
 

@@ -15,7 +15,7 @@ use Rattle.line_syntax.specs.High.{IsExprHigh}
 use Rattle.line_reader.specs.Steps.{step_of}
 use Rattle.line_reader.specs.declared.step.Step.{Step}
 use Rattle.line_reader.specs.Refusals.{IsTokensOf}
-use Rattle.line_value.specs.Lines.{AreStepsOf, AreLineSteps}
+use Rattle.line_value.specs.Lines.{AreStepsOf}
 use Rattle.germ_law.specs.Germ.{polynomial_of, linear_coefficient, without_constant, IsFirstLinear}
 use Rattle.germ_law.specs.Reading.{jet_of}
 use Rattle.germ_law.specs.Jets.{jets, high_jets}
@@ -48,9 +48,6 @@ line_steps bytes names steps n e t = record {
   names_are = ap length t.names_are ∙ e;
   steps_are = t.steps_are ∙ ap (λ ns. map (step_of ns) (tokens_of t.line)) (sym t.names_are);
 }
-
-pub some_steps : (bytes : List ℕ) (names : List Word) (steps : List Step) (n : ℕ) → length names ≡ n → IsTokensOf bytes names steps → AreLineSteps n steps
-some_steps bytes names steps n e t = record { line = t.line; are = line_steps bytes names steps n e t }
 
 pub few_names : (bytes : List ℕ) (names : List Word) (steps : List Step) → IsTokensOf bytes names steps → length names ≤ 8
 few_names bytes names steps t = subst (λ ns. length ns ≤ 8) t.names_are t.spells.is_line.few_names

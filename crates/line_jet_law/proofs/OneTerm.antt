@@ -1,5 +1,5 @@
 -- Jets of at most one term.
-use Rattle.std.proofs.Common.{◌≡◌, ◌≢◌, ℕ, zero, suc, ◌<◌, ◌≤◌, Bool, true, false, cond, eqb, eqb-true, eq-eqb, List, [], ◌∷◌, get_or, set, sum, pos, refl, sym, ap, subst, ◌∙◌, arith}
+use Rattle.std.proofs.Common.{◌≡◌, ◌≢◌, ℕ, zero, suc, ◌<◌, ◌≤◌, Bool, true, false, cond, eqb, eqb-true, eq-eqb, List, [], ◌∷◌, get_or, set, sum, pos, refl, sym, ap, ◌∙◌}
 use Rattle.std.proofs.lemmas.List.{get_or-set_same, get_or-set_other}
 use Rattle.std.proofs.lemmas.List.Elements.{All-nil, All-cons}
 use Rattle.ring_theory.specs.Rational.{Rational, rational_ops}
@@ -7,14 +7,14 @@ use Rattle.ring_theory.proofs.RationalLaws.{rational_laws}
 use Rattle.ring_law.specs.declared.fraction.Frac.{Frac}
 use Rattle.ring_law.specs.Fraction.{IsFrac, frac_value}
 use Rattle.ring_law.proofs.FractionLaws.{zero_value, nonzero_value}
-use Rattle.poly_law.specs.Exps.{same, degree, variable, none}
+use Rattle.poly_law.specs.Exps.{same, variable, none}
 use Rattle.poly_law.specs.ExpList.{ExpList, exps}
 use Rattle.poly_law.proofs.ExpLists.{exps_are}
 use Rattle.poly_law.proofs.ExpLaws
 use Rattle.mono_exp.specs.declared.exponent.Exp.{Exp}
 use Rattle.mono_exp.specs.Exponents.{IsIn}
 use Rattle.jet_law.specs.Terms.{exp_of}
-use Rattle.jet_law.proofs.TermLemmas.{at-exp_of, degree-exp_of}
+use Rattle.jet_law.proofs.TermLemmas.{at-exp_of}
 use Rattle.jet_poly.specs.JetTerms.{JetTerms}
 use Rattle.germ_law.specs.Reading.{jet_of}
 use Rattle.line_jet_law.specs.LineJets.{IsRationalJet, rational_polynomial}
@@ -90,17 +90,10 @@ get_or-unit i j h = step (eqb j i) refl
     step true e = ap (λ k. get_or (set zeros i 1) k 0) (eqb-true j i e) ∙ get_or-set_same zeros i 1 0 h
     step false e = get_or-set_other zeros i j 1 0 (λ q. bad (sym (eq-eqb j i q) ∙ e)) ∙ get_or-zeros j
 
-pub unit_in : (n i : ℕ) → i < 8 → i < n → IsIn n (set zeros i 1)
-unit_in n i h l j g = get_or-unit i j h ∙ ExpLaws.unit_no j i (λ e. absurd (omega arith))
-
 pub unit_is : (n i : ℕ) (a : Exp) → i < 8 → a.e ≡ set zeros i 1 → exp_of n a ≡ variable (exps n) i
 unit_is n i a h q =
     (exps_are n).same_at (exp_of n a) (variable (exps n) i)
     (λ j g. at-exp_of n a j g ∙ ap (λ z. get_or z j 0) q ∙ get_or-unit i j h ∙ sym (ExpLaws.at-variable (exps n) (exps_are n) i j g))
-
-pub unit_degree : (n i : ℕ) (a : Exp) → i < 8 → i < n → a.e ≡ set zeros i 1 → sum a.e ≡ 1
-unit_degree n i a h l q =
-    sym (degree-exp_of n a (subst (IsIn n) (sym q) (unit_in n i h l))) ∙ ap (degree (exps n)) (unit_is n i a h q) ∙ ExpLaws.degree-variable (exps n) (exps_are n) i l
 
 -- the exponents of a constant
 pub zeros_in : (n : ℕ) → IsIn n zeros

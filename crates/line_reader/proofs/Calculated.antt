@@ -1,10 +1,10 @@
 -- The steps of an expression's tokens calculate its value.
 use Rattle.std.proofs.Common.{◌≡◌, ℕ, Bool, true, false, cond, List, [], ◌∷◌, map, Option, Some, None, refl, sym, ap, subst, ◌∙◌}
 use Rattle.std.specs.Prelude.{nat_lt, ◌==◌}
-use Rattle.line_syntax.specs.Syntax.{Word, Sign, plus, minus, Expr, Term, Factor, Atom, Token, name, number, symbol, sign_token, expr_tokens, number_of, divisors_of_expr}
+use Rattle.line_syntax.specs.Syntax.{Word, Sign, plus, minus, Expr, Term, Factor, Token, name, number, symbol, expr_tokens, number_of, divisors_of_expr}
 use Rattle.line_syntax.specs.Syntax as syntax
 use Rattle.line_syntax.proofs.Parsing as parsing
-use Rattle.line_syntax.proofs.Parsing.{Left, Before, Place, place, expr_of, term_of, atom_wanted, atom_seen, exponent_wanted, divisor_wanted, term_seen, step, run, run_none, read_expr, seen_expr, in_expr, expr_in, are_divisors}
+use Rattle.line_syntax.proofs.Parsing.{Left, Before, Place, place, expr_of, term_of, atom_wanted, atom_seen, exponent_wanted, divisor_wanted, term_seen, step, run, run_none, read_expr, seen_expr, are_divisors}
 use Rattle.line_reader.specs.Steps.{step_of}
 use Rattle.line_syntax.specs.Value.{Arithmetic, with_sign, expr_value, term_value, factor_value, atom_value}
 use Rattle.line_reader.specs.Calculation.{Frame, frame, State, wanted, seen, exponent, divisor, term, times, signed_value, total, closed, on_term, on_step, on_steps, outcome, calculation_start}

@@ -1,7 +1,7 @@
 -- Steps of an expression's tokens go through a high operation only where the value of the expression does.
 use Rattle.std.proofs.Common.{◌≡◌, ℕ, Bool, true, false, cond, List, [], ◌∷◌, map, Option, Some, None, ◌⊎◌, inl, inr, refl, sym, ap, subst, ◌∙◌, true≢false}
 use Rattle.std.specs.Prelude.{nat_lt, ◌==◌}
-use Rattle.line_syntax.specs.Syntax.{Word, Sign, plus, minus, Expr, Term, Factor, Atom, Token, name, number, symbol, expr_tokens, number_of, divisors_of_expr}
+use Rattle.line_syntax.specs.Syntax.{Word, Sign, Expr, Term, Factor, Atom, Token, name, number, symbol, expr_tokens, number_of, divisors_of_expr}
 use Rattle.line_syntax.specs.Syntax as syntax
 use Rattle.line_syntax.specs.Value.{Arithmetic, expr_value, term_value, factor_value, atom_value}
 use Rattle.line_syntax.specs.High.{HighOperations, IsPowerHigh, IsExprHigh, IsTermHigh, IsFactorHigh, IsAtomHigh}

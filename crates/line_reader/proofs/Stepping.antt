@@ -9,7 +9,7 @@ use Rattle.line_syntax.specs.Grammar.{IsSpaced, is_blank, literal_limit, is_smal
 use Rattle.line_reader.specs.declared.step.Step.{Step}
 use Rattle.line_reader.specs.Views.{is_word}
 use Rattle.line_reader.specs.Reading.{goes_on}
-use Rattle.line_reader.specs.Steps.{word_tokens, lexed, step_of, lex_byte, Ends, Lexes, IsLargeAt}
+use Rattle.line_reader.specs.Steps.{word_tokens, lexed, step_of, lex_byte, Lexes, IsLargeAt}
 use Rattle.line_reader.proofs.Held.{spaced_append, one_spaced, longer_word}
 use Rattle.line_reader.proofs.Lexed.{word_tokens_spaced, lexed_spaced}
 
@@ -159,20 +159,3 @@ nothing_left [] zero h = refl
 nothing_left [] (suc i) h = refl
 nothing_left (b ∷ bytes) zero h = absurd (omega arith)
 nothing_left (b ∷ bytes) (suc i) h = nothing_left bytes i (omega arith)
-
--- the last word ends
-pub stepped_ends : (names : List Word) (line : List ℕ) (i : ℕ) (w : Word) (steps steps' : List Step) → Stepped names line i w steps → length line ≤ i → Ends true names w steps steps' → (list_all is_small_token (lexed [] line) ≡ true) × (steps' ≡ map (step_of names) (lexed [] line))
-stepped_ends names line i w steps steps' s l h =
-    let whole : lexed [] line ≡ s.tokens ++ word_tokens w = s.whole ∙ ap (λ z. s.tokens ++ lexed w z) (nothing_left line i l) in (
-      ap (list_all is_small_token) whole ∙ list_all-append is_small_token s.tokens (word_tokens w) ∙ ap₂ (λ a b. a && b) s.small h.0,
-      h.1 ∙ ap (λ z. z ++ map (step_of names) (word_tokens w)) s.steps_are ∙ sym (map_append (step_of names) s.tokens (word_tokens w)) ∙ ap (map (step_of names)) (sym whole),
-    )
-
-pub stepped_large_end : (names : List Word) (line : List ℕ) (i : ℕ) (w : Word) (steps steps' : List Step) → Stepped names line i w steps → length line ≤ i → i ≤ length line → Ends false names w steps steps' → IsLargeAt line (length line - length w)
-stepped_large_end names line i w steps steps' s l m h =
-    let none : drop i line ≡ [] = nothing_left line i l in
-    let split : lexed w (drop i line) ≡ word_tokens w ++ lexed [] (drop i line) = ap (lexed w) none ∙ sym (append-nil (word_tokens w)) ∙ ap (λ z. word_tokens w ++ lexed [] z) (sym none) in
-    subst (λ z. IsLargeAt line (z - length w)) (same i (length line) l m) (large_word names line i w steps s m split h.0 h.1)
-  where
-    same : (i n : ℕ) → n ≤ i → i ≤ n → i ≡ n
-    same i n h k = omega arith

@@ -6,7 +6,7 @@ use Rattle.std.specs.Str.{bytes_eq}
 use Rattle.std.proofs.lemmas.List.{map-append, length-map}
 use Rattle.std.proofs.lemmas.List.Folds.{list_all-append}
 use Rattle.std.proofs.lemmas.List.Elements.{All-nil, All-cons}
-use Rattle.line_syntax.specs.Syntax.{Word, Line, IsLine, Expr, Term, Factor, Atom, Sign, plus, minus, Token, name, number, symbol, sign_token, expr_tokens, term_tokens, factor_tokens, atom_tokens, after_commas, separated, declaration_tokens, tokens_of, names_of, names_in, is_among}
+use Rattle.line_syntax.specs.Syntax.{Word, Line, Expr, Term, Factor, Atom, Sign, plus, minus, Token, name, number, symbol, sign_token, expr_tokens, term_tokens, factor_tokens, atom_tokens, after_commas, declaration_tokens, names_of, names_in, is_among}
 use Rattle.line_syntax.specs.Syntax as syntax
 use Rattle.std.proofs.lemmas.Slice.Eq.{bytes_eq-Decides}
 use Rattle.line_syntax.proofs.Bools.{and_left, and_right, or_other, all_found}
@@ -109,15 +109,6 @@ declared_body n steps l a h = (body_of n steps l.declared l.body a h).0
 
 pub declared_length : (n : ℕ) (steps : List Step) (l : Line) → AreStepsOf n l steps → begins_with_bracket steps ≡ true → 2 * n + 1 ≤ length steps
 declared_length n steps l a h = (body_of n steps l.declared l.body a h).1
-
--- the steps of a line without declaration
-plain_of : (n : ℕ) (steps : List Step) (declared : Option (List Word)) (body : Expr) → let l : Line = record { declared = declared; body = body } in
-    AreStepsOf n l steps → begins_with_bracket steps ≡ false → steps ≡ map (step_of (names_of l)) (expr_tokens body)
-plain_of n steps None body a h = a.steps_are
-plain_of n steps (Some names) body a h = absurd (true≢false (sym (ap begins_with_bracket a.steps_are) ∙ h))
-
-pub plain_body : (n : ℕ) (steps : List Step) (l : Line) → AreStepsOf n l steps → begins_with_bracket steps ≡ false → steps ≡ map (step_of (names_of l)) (expr_tokens l.body)
-plain_body n steps l a h = plain_of n steps l.declared l.body a h
 
 -- ---- the names of an expression
 

@@ -5,17 +5,18 @@ use Rattle.ring_theory.proofs.RationalLaws.{unique, own, rational_is, den_pos}
 use Rattle.ring_law.specs.Fraction.{frac_value}
 use Rattle.ext_theory.specs.Extension.{Quadratic, Cubic, quadratic_at, cubic_at}
 use Rattle.ext_theory.specs.Roots.{HasNoRoot, IsNoSquare}
-use Rattle.ext_algebra.specs.Algebra.{quadratic_modulus, cubic_modulus, IsIrreducible}
+use Rattle.small_frac.specs.Roots.{quadratic_of, cubic_of}
+use Rattle.ext_algebra.specs.Algebra.{IsIrreducible}
 use Rattle.move_law.specs.Algebras.{frac_of, quadratic_algebra, cubic_algebra, tower_algebra}
 
 -- a rational number as a fraction has its value
 pub exact : (q : Rational) → frac_value (frac_of q) ≡ q
 exact q = unique (rational_is q.num q.den (den_pos q)) (own q) refl
 
-quadratic_exact : (m : Quadratic Rational) → quadratic_modulus (frac_of m.c1) (frac_of m.c0) ≡ m
+quadratic_exact : (m : Quadratic Rational) → quadratic_of (frac_of m.c1) (frac_of m.c0) ≡ m
 quadratic_exact m = λ i. record { c0 = exact m.c0 i; c1 = exact m.c1 i }
 
-cubic_exact : (m : Cubic Rational) → cubic_modulus (frac_of m.c2) (frac_of m.c1) (frac_of m.c0) ≡ m
+cubic_exact : (m : Cubic Rational) → cubic_of (frac_of m.c2) (frac_of m.c1) (frac_of m.c0) ≡ m
 cubic_exact m = λ i. record { c0 = exact m.c0 i; c1 = exact m.c1 i; c2 = exact m.c2 i }
 
 -- Q[t] modulo a polynomial of degree 2 without rational root

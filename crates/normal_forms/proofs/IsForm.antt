@@ -32,10 +32,6 @@ mapped : (Q : List ℕ → Type 0) (P : Exp → Type 0) (es : List (List ℕ)) �
 mapped Q P [] f a = tt
 mapped Q P (e ∷ es) f a = (f e a.0, mapped Q P es f a.1)
 
-each_true : {X : Type 0} (p : X → Bool) (xs : List X) → list_all p xs ≡ true → AllByRecursion (λ x. p x ≡ true) xs
-each_true p [] h = tt
-each_true p (x ∷ xs) h = let both = and_true (p x) (list_all p xs) h in (both.0, each_true p xs both.1)
-
 all_true : {X : Type 0} (p : X → Bool) (xs : List X) → AllByRecursion (λ x. p x ≡ true) xs → list_all p xs ≡ true
 all_true p [] a = refl
 all_true p (x ∷ xs) a = ap₂ (λ b c. b && c) a.0 (all_true p xs a.1)

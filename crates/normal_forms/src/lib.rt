@@ -33,4 +33,4 @@ pub use membership::in_pattern;
 pub use milnor::index;
 pub use modulus_line::ModulusLine;
 pub use pattern::Pattern;
-pub use split::is_split;
+pub use split::{is_residual_monomial, is_split, square};

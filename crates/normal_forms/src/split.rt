@@ -29,7 +29,7 @@ fn is_square_monomial(c: u8, m: Exp) -> bool
 }
 
 /// The square of the variable with this number, counted from 0.
-pub(crate) fn square(variable: u8) -> Exp
+pub fn square(variable: u8) -> Exp
     requires { variable < 8 }
     ensures { result ≡ square_of variable }
 {

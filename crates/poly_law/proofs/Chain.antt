@@ -12,11 +12,10 @@ use Rattle.poly_law.proofs.Pair
 use Rattle.poly_law.proofs.Pair.{pair}
 use Rattle.poly_law.proofs.PolyRing.{Poly, poly_ring, poly_is_ring}
 use Rattle.poly_law.proofs.Derivation
-use Rattle.poly_law.proofs.Derivation.{IsDerivation, multiple_when, less}
+use Rattle.poly_law.proofs.Derivation.{less}
 use Rattle.poly_law.proofs.Derivative
 use Rattle.poly_law.proofs.Derivative.{partial, partial_is, slope}
 use Rattle.poly_law.proofs.Subst
-use Rattle.poly_law.proofs.Subst.{inside}
 
 module _ {E F V : Type 0} (x : Exps E) (l : IsExps x) (y : Exps F) (m : IsExps y) (r : RingOps V) (c : IsCommRing r) (s : IsSet V) where
   abbrev ring : RingOps (Poly y r)

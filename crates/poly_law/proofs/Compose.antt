@@ -9,9 +9,7 @@ use Rattle.poly_law.proofs.Pair
 use Rattle.poly_law.proofs.Pair.{pair}
 use Rattle.poly_law.proofs.PolyRing.{Poly, poly_ring}
 use Rattle.poly_law.proofs.Hom
-use Rattle.poly_law.proofs.Hom.{IsHom}
 use Rattle.poly_law.proofs.Subst
-use Rattle.poly_law.proofs.Subst.{inside}
 
 module _ {E F G V : Type 0} (x : Exps E) (l : IsExps x) (y : Exps F) (m : IsExps y) (z : Exps G) (n : IsExps z) (r : RingOps V) (c : IsCommRing r) (s : IsSet V)
     (first : ℕ → Terms F V) (next : ℕ → Terms G V) where

@@ -12,7 +12,6 @@ use Rattle.poly_law.proofs.Pair
 use Rattle.poly_law.proofs.Pair.{pair, at_only}
 use Rattle.poly_law.proofs.PolyRing.{poly_ring, poly_is_ring}
 use Rattle.poly_law.proofs.Hom
-use Rattle.poly_law.proofs.Hom.{IsHom}
 use Rattle.poly_law.proofs.Order
 use Rattle.poly_law.proofs.Subst
 use Rattle.poly_law.proofs.SubstOrder

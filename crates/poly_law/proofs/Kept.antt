@@ -14,10 +14,8 @@ use Rattle.poly_law.proofs.Derivative.{partial}
 use Rattle.poly_law.proofs.Order
 use Rattle.poly_law.proofs.Subst
 use Rattle.poly_law.proofs.Near
-use Rattle.poly_law.proofs.Filtration.{IsFiltration}
 use Rattle.poly_law.proofs.Mather
 use Rattle.poly_law.proofs.Rows.{row_of, mather_row}
-use Rattle.poly_law.proofs.Mather.{HasPartials, IsChange}
 use Rattle.poly_law.proofs.Filtration
 use Rattle.poly_law.proofs.Change
 use Rattle.poly_law.proofs.Change.{Ord}

@@ -10,7 +10,6 @@ use Rattle.poly_law.proofs.ExpLaws
 use Rattle.poly_law.proofs.Pair
 use Rattle.poly_law.proofs.Pair.{pair, at_only}
 use Rattle.poly_law.proofs.Derivative
-use Rattle.poly_law.proofs.Derivative.{partial, partial_is, slope}
 use Rattle.poly_law.proofs.Order
 
 module _ {E V : Type 0} (x : Exps E) (l : IsExps x) (r : RingOps V) (c : IsCommRing r) where

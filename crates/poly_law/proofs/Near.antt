@@ -6,7 +6,7 @@ use Rattle.std.proofs.Common.{◌≡◌, ℕ, zero, suc, ◌+◌, ◌*◌, ◌<�
 use Rattle.ring_theory.specs.Ring.{RingOps, IsCommRing}
 use Rattle.poly_law.specs.Sums.{power, monomial}
 use Rattle.poly_law.specs.Exps.{Exps, IsExps, plus, none, variable}
-use Rattle.poly_law.specs.Poly.{Terms, coefficient, scale, times_term, times, constant, poly_ops, derivative, cut, Same, SameTo, StartsAt, monomial_of, subst_in}
+use Rattle.poly_law.specs.Poly.{Terms, coefficient, times_term, times, poly_ops, Same, SameTo, StartsAt, monomial_of, subst_in}
 use Rattle.poly_law.proofs.ExpLaws
 use Rattle.poly_law.proofs.Pair
 use Rattle.poly_law.proofs.Pair.{pair, at_only}

@@ -10,7 +10,6 @@ use Rattle.poly_law.proofs.Pair
 use Rattle.poly_law.proofs.Pair.{pair, at_only}
 use Rattle.poly_law.proofs.Derivation.{multiple_when}
 use Rattle.poly_law.proofs.Derivative
-use Rattle.poly_law.proofs.Derivative.{partial, partial_is, slope}
 
 -- the coefficients of a derivative
 module _ {E V : Type 0} (x : Exps E) (l : IsExps x) (r : RingOps V) (c : IsCommRing r) where

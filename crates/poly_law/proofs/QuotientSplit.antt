@@ -8,9 +8,9 @@ use Rattle.poly_law.specs.Poly.{Terms, coefficient, scale, times, poly_ops, deri
 use Rattle.poly_law.proofs.Sums
 use Rattle.poly_law.proofs.ExpLaws
 use Rattle.poly_law.proofs.Pair
-use Rattle.poly_law.proofs.Pair.{pair, at_only}
+use Rattle.poly_law.proofs.Pair.{pair}
 use Rattle.poly_law.proofs.PolyRing
-use Rattle.poly_law.proofs.PolyRing.{Poly, poly_ring, poly_is_ring}
+use Rattle.poly_law.proofs.PolyRing.{Poly}
 use Rattle.poly_law.proofs.Near
 use Rattle.poly_law.proofs.Linear
 use Rattle.poly_law.proofs.Place

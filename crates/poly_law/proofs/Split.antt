@@ -12,7 +12,7 @@ use Rattle.poly_law.proofs.ExpLaws
 use Rattle.poly_law.proofs.Pair
 use Rattle.poly_law.proofs.Pair.{pair, at_only}
 use Rattle.poly_law.proofs.PolyRing
-use Rattle.poly_law.proofs.PolyRing.{Poly, poly_ring, poly_is_ring}
+use Rattle.poly_law.proofs.PolyRing.{Poly}
 use Rattle.poly_law.proofs.Order
 use Rattle.poly_law.proofs.Near
 use Rattle.poly_law.proofs.Linear

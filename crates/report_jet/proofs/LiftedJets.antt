@@ -1,10 +1,9 @@
 -- Jets over the rational numbers, over an algebra.
-use Rattle.std.proofs.Common.{◌≡◌, ◌≢◌, ℕ, ◌≤◌, true, List, [], ◌∷◌, map, sum, refl, sym, ap, ap₂, ◌∙◌, pos}
+use Rattle.std.proofs.Common.{◌≡◌, ◌≢◌, ℕ, ◌≤◌, List, [], ◌∷◌, sum, refl, ap, ap₂, pos}
 use Rattle.std.specs.List.{AllByRecursion, All}
 use Rattle.std.proofs.lemmas.List.Elements.{All-from_recursion, recursion_from_All}
 use Rattle.ring_theory.specs.Gcd.{gcd}
-use Rattle.ring_theory.specs.Rational.{Rational, rational, rational_ops}
-use Rattle.ring_theory.specs.Height.{rational_scalars}
+use Rattle.ring_theory.specs.Rational.{Rational, rational}
 use Rattle.ring_law.specs.declared.fraction.Frac.{Frac}
 use Rattle.ring_law.specs.Fraction.{IsFrac, frac_value, rational_meaning}
 use Rattle.ext_theory.specs.ExtensionScalars.{quadratic_scalars, cubic_scalars}

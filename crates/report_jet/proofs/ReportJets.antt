@@ -1,7 +1,7 @@
 -- The jets of a well-formed report over the ring of its algebra.
-use Rattle.std.proofs.Common.{◌≡◌, ◌≢◌, ℕ, zero, suc, ◌+◌, ◌≤◌, Bool, true, false, ◌&&◌, IsTrue, cond, leb, eqb, List, [], ◌∷◌, map, length, get_or, sum, refl, sym, ap, ◌∙◌, subst, true≢false, arith, pos, zero-lt-suc}
+use Rattle.std.proofs.Common.{◌≡◌, ◌≢◌, ℕ, zero, suc, ◌≤◌, Bool, true, false, ◌&&◌, leb, List, [], ◌∷◌, map, length, get_or, sum, refl, sym, ap, ◌∙◌, subst, true≢false, pos, zero-lt-suc}
 use Rattle.std.specs.Prelude.{not, nat_le, drop, ◌==◌}
-use Rattle.std.specs.List.{AllByRecursion, All, list_all, filter}
+use Rattle.std.specs.List.{AllByRecursion, All, list_all}
 use Rattle.std.proofs.lemmas.Bool.{leb-true}
 use Rattle.std.proofs.lemmas.Bool.Decides.{Decides-int_eq}
 use Rattle.std.proofs.lemmas.List.Elements.{All-from_recursion}
@@ -17,7 +17,7 @@ use Rattle.ext_algebra.specs.declared.algebra.Algebra.{Algebra}
 use Rattle.ext_algebra.specs.declared.algebra.Algebra.TheVariants as algebras
 use Rattle.ext_algebra.specs.declared.algebra.Ext.{Ext}
 use Rattle.ext_algebra.specs.Fractions.{is_zero_frac}
-use Rattle.ext_algebra.specs.Algebra.{Value, ops, scalars, value_in, IsElement, IsAlgebra, is_element, is_algebra, algebra_meaning}
+use Rattle.ext_algebra.specs.Algebra.{ops, scalars, value_in, IsElement, IsAlgebra, is_element, is_algebra, algebra_meaning}
 use Rattle.ext_algebra.proofs.ElementTests.{is_element-IsElement, is_algebra-IsAlgebra}
 use Rattle.mono_exp.specs.declared.exponent.Exp.{Exp}
 use Rattle.mono_exp.specs.Exponents.{IsIn}
@@ -29,7 +29,7 @@ use Rattle.jet_poly.proofs.KeptTerms.{kept-all}
 use Rattle.normal_forms.specs.Monomials.{is_residual, residual_terms}
 use Rattle.cert_text.specs.declared.report.Carried.{Carried}
 use Rattle.cert_text.specs.WellFormed.{IsWellFormedCarried, IsJetOf, is_term_of, is_monomial_in, is_zero_element}
-use Rattle.report_law.specs.Polynomials.{PolynomialOver, terms_in, residual_part, value_at, zero_element}
+use Rattle.report_law.specs.Polynomials.{terms_in, residual_part, value_at, zero_element}
 use Rattle.report_law.specs.Items.{residual_of}
 use Rattle.report_law.proofs.Splitting.{zero_past}
 

@@ -4,7 +4,7 @@ ghost use Rattle.std.specs.Prelude.{◌≡◌, IfOk};
 ghost use Rattle.ext_algebra.specs.Algebra.{algebra_meaning, value_in};
 ghost use Rattle.jet_law.specs.Terms.{poly_of};
 ghost use Rattle.jet_poly.specs.Jets.{IsJet};
-ghost use Rattle.normal_forms.specs.Monomials.{is_residual as is_residual_of, residual_terms as residual_terms_of};
+ghost use Rattle.normal_forms.specs.Monomials.{residual_terms as residual_terms_of};
 ghost use Rattle.cert_text.specs.WellFormed.{IsWellFormedCarried};
 ghost use Rattle.report_law.specs.Items.{residual_of};
 
@@ -12,15 +12,9 @@ use cert_text::Carried;
 use ext_algebra::Ext;
 use jet_poly::Jet;
 use mono_exp::Exp;
+use normal_forms::is_residual_monomial;
 use ring_law::{Frac, NoMemory};
 use std::alloc::Global;
-
-// True where the monomial has none of the variables past the first c.
-fn is_residual(c: u8, m: Exp) -> bool
-    ensures { result ≡ is_residual_of c m }
-{
-    m.e.iter().skip(usize::from(c)).all(|e| *e == 0)
-}
 
 // The terms without square variables, with corank c.
 #[tactic(auto, unfolding(normal_forms::specs::Monomials::residual_terms))]
@@ -33,7 +27,7 @@ fn residual_terms(
 {
     let mut kept = Vec::new(alloc);
     for t in terms {
-        if is_residual(c, t.0) {
+        if is_residual_monomial(c, t.0) {
             kept.push(*t)?;
         }
     }

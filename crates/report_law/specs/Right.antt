@@ -27,12 +27,6 @@ pub record IsRead (bytes : List ℕ) : Type 0 where
 abbrev pub IsCriticalLine : List ℕ → Type 0
 IsCriticalLine bytes = (l : Line) × IsCritical bytes l
 
--- the same, and it has more than one variable
-pub record IsManyVariables (bytes : List ℕ) : Type 0 where
-  pub line : Line
-  pub critical : IsCritical bytes line
-  pub many : 1 < length (names_of line)
-
 -- the order is at most the limit, and the algebra is a field: its modulus in t has no rational root, and over a tower d is no square
 pub record IsWithin (limit : ℕ) (c : Carried) : Type 0 where
   pub order : c.order ≤ order_limit limit (length c.names)

@@ -273,9 +273,6 @@ pub record FrameRead (f : Frame) (bytes three : List ℕ) : Type 0 where
   pub algebra_line : word_line words.Algebra (algebra_text f.algebra) ++ two ≡ one
   pub corank_line : word_line words.Corank (decimal f.corank) ++ three ≡ two
 
-pub frame_is : (f : Frame) (bytes three : List ℕ) → FrameRead f bytes three → IsFrame f
-frame_is f bytes three r = record { order_at_least = r.order.0; order_at_most = r.order.1; algebra = r.algebra; corank = r.corank.1 }
-
 behind_corank : (word : Word) (f : Frame) (bytes three : List ℕ) (left : ℕ) → FrameRead f bytes three → IsStop (HasCorank f.order f.algebra f.corank) (rest3 word) three left → IsStop IsWellFormedCarried (carried_text word) bytes left
 behind_corank word f bytes three left r s = behind_algebra word f.order f.algebra bytes r.one r.two left r.order r.order_line r.algebra r.algebra_line
     (pair_second (IsWithin 0 8) (λ r. word_line words.Corank (decimal r)) (HasCorank f.order f.algebra) (rest3 word) (HasAlgebra f.order f.algebra) (rest2 word) f.corank r.two three left (corank_pair word f.order f.algebra r.order r.algebra) r.corank r.corank_line s)

@@ -85,10 +85,6 @@ part_wide n k order a f le h = record {
   no_constant = h.no_constant;
 }
 
-text_wide : (k : ℕ) (f : JetTerms Element) → jet_text (widened k f) ≡ jet_text f
-unfolding polynomial_in
-text_wide k f = refl
-
 -- ---- parts one after the other
 
 polynomials : (f : Frame) (n : ℕ) (p : Parts) → IsFrame f → ArePartsIn f n p → law.AreParts p.names p.parts

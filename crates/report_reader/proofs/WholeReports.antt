@@ -97,9 +97,6 @@ pub end_stop : (a : Answer) (bytes rest : List ℕ) → IsWellFormedAnswer a →
 end_stop a bytes rest ok e none =
     pair_second IsWellFormedAnswer answer_text (λ a (n : ℕ). IsAny n) (λ n. line (word_text words.End)) IsWellFormedAnswer ended_text a bytes rest (length rest) ended_pair ok e (word_stop words.End rest none)
 
-pub ended_read : (a : Answer) (bytes one rest : List ℕ) → answer_text a ++ one ≡ bytes → line (word_text words.End) ++ rest ≡ one → ended_text a ++ rest ≡ bytes
-ended_read a bytes one rest e f = append_assoc (answer_text a) (line (word_text words.End)) rest ∙ ap (λ (z : List ℕ). answer_text a ++ z) f ∙ e
-
 -- ---- reports
 
 long_split : (n : ℕ) → report_text (reports.Long n) ≡ word_line words.Long (decimal n) ++ too_long_rest

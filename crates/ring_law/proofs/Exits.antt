@@ -4,7 +4,7 @@ use Rattle.std.specs.Result.{IsErrAnd}
 use Rattle.ring_law.specs.declared.fraction.Range.{Range}
 use Rattle.ring_law.specs.declared.fraction.Fault.{Fault}
 use Rattle.ring_law.specs.declared.fraction.Fault.TheVariants as fault
-use Rattle.ring_law.specs.Refusals.{IsRefusal, OnRange, OnFault, FaultBy}
+use Rattle.ring_law.specs.Refusals.{OnRange, OnFault, FaultBy}
 
 range_weaker : {T : Type 0} (r : Result T Range) {P Q : Type 0} → (P → Q) → OnRange r P → OnRange r Q
 range_weaker (Ok x) f h = record { only = tt }
@@ -13,10 +13,6 @@ range_weaker (Err e) f h = record { only = (h.only.0, f h.only.1) }
 -- a refusal for a reason is one for a weaker reason
 pub refused_by : {T : Type 0} {r : Result T Range} {P Q : Type 0} → (P → Q) → OnRange r P → OnRange r Q
 refused_by {r} f h = range_weaker r f h
-
--- what the error of a refused call says
-pub at_error : {T : Type 0} {e : Range} {P : Type 0} → OnRange {T = T} (Err e) P → IsRefusal e × P
-at_error h = h.only
 
 -- the error of a call, handed on by `?`: r is what it returns
 pub handed_on : {T U : Type 0} {e : Range} {P Q : Type 0} (r : Result U Range) → IsErrAnd r (λ y. y ≡ e) → (P → Q) → OnRange {T = T} (Err e) P → OnRange r Q

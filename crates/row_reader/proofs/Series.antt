@@ -20,10 +20,6 @@ abbrev pub Begins : List ℕ → Type 0
 Begins [] = ⊥
 Begins (b ∷ bs) = b ≡ 32
 
-begin_rest : (f y : List ℕ) → Begins f → IsRest (f ++ y)
-begin_rest [] y h = absurd h
-begin_rest (b ∷ bs) y h = h
-
 series_rest : {A : Type 0} (piece : ℕ → A → List ℕ) → ((i : ℕ) (v : A) → Begins (piece i v)) → (i : ℕ) (zs : List A) (y : List ℕ) → IsRest y → IsRest (series piece i zs ++ y)
 series_rest piece begins i [] y h = h
 series_rest piece begins i (z ∷ zs) y h = regroup (piece i z) (series piece (suc i) zs) (begins i z)

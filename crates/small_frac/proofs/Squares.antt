@@ -1,7 +1,5 @@
 -- Squares: of whole numbers, and of rational numbers in lowest terms.
-use Rattle.std.proofs.Common.{◌≡◌, ◌≢◌, ℕ, zero, suc, ◌+◌, ◌*◌, ◌≤◌, ◌<◌, ◌^◌, ◌<ℤ◌, ◌≤ℤ◌, ℤ, pos, negsuc, ◌*ℤ◌, unsigned_abs, refl, sym, ◌∙◌, ap, ap₂, subst, arith, mul-pos, Option, None, ⊎_elim}
-use Rattle.std.proofs.lemmas.Bool.{cases_lt}
-use Rattle.std.proofs.lemmas.Nat.{mul-le}
+use Rattle.std.proofs.Common.{◌≡◌, ◌≢◌, ℕ, zero, suc, ◌*◌, ◌<◌, ◌^◌, ◌<ℤ◌, ◌≤ℤ◌, ℤ, pos, negsuc, ◌*ℤ◌, unsigned_abs, refl, sym, ◌∙◌, ap, ap₂, subst, arith, mul-pos, Option, None}
 use Rattle.std.proofs.Math.Nat.{dvd-mul_left}
 use Rattle.std.proofs.lemmas.Int.{ints, unsigned_abs-mul}
 use Rattle.ring_theory.specs.Gcd.{gcd}
@@ -49,16 +47,6 @@ no_root_of_den q h none x e = none x.den (sym (parts_of_square q x h e).1)
 
 pub nothing : (q : Frac) (r : Option Frac) → r ≡ None → ((x : Rational) → rational_mul x x ≢ frac_value q) → IsRootOf q r
 nothing q r e h = subst (λ o. IsRootOf q o) (sym e) h
-
--- r is the root of k * k where it is the largest number whose square is at most that
-pub largest_root : (r k : ℕ) → r * r ≤ k * k → k * k < (r + 1) * (r + 1) → r ≡ k
-largest_root r k below above = ⊎_elim (λ lt. absurd (smaller lt)) (λ ge. ⊎_elim (λ lt. absurd (greater lt)) (λ le. omega arith) (cases_lt k r)) (cases_lt r k)
-  where
-    smaller : r < k → ⊥
-    smaller lt = let h : (r + 1) * (r + 1) ≤ k * k = mul-le (r + 1) (r + 1) k k (omega arith) (omega arith) in omega arith
-
-    greater : k < r → ⊥
-    greater lt = let h : (k + 1) * (k + 1) ≤ r * r = mul-le (k + 1) (k + 1) r r (omega arith) (omega arith) in omega arith
 
 -- the squares of numbers are coprime only where these are
 coprime_roots : (n d : ℕ) → gcd (n * n) (d * d) ≡ 1 → gcd n d ≡ 1

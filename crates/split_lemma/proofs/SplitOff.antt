@@ -1,5 +1,5 @@
 -- The splitting lemma in one degree, over a commutative ring: by Taylor's first order, what is put for the square variables takes from the terms of the degree those that have one.
-use Rattle.std.proofs.Common.{◌≡◌, ℕ, zero, suc, ◌+◌, ◌-◌, ◌<◌, ◌≤◌, ◌⊎◌, Bool, true, false, cond, eqb, eqb-true, eq-eqb, leb, leb-true, ltb, ltb-false, le-ltb, [], ◌∷◌, ◌++◌, flat_map, filter, refl, sym, ap, ap₂, subst, ◌∙◌, arith}
+use Rattle.std.proofs.Common.{◌≡◌, ℕ, zero, suc, ◌+◌, ◌-◌, ◌<◌, ◌≤◌, Bool, true, false, cond, eqb, eqb-true, eq-eqb, leb, leb-true, ltb, ltb-false, le-ltb, [], ◌∷◌, ◌++◌, flat_map, filter, refl, sym, ap, ap₂, subst, ◌∙◌, arith}
 use Rattle.ring_theory.specs.Ring.{RingOps, IsCommRing}
 use Rattle.poly_law.specs.Sums.{sum_to, multiple}
 use Rattle.poly_law.specs.Exps.{Exps, IsExps, plus, lower, variable, same, degree}
@@ -16,9 +16,6 @@ use Rattle.poly_law.proofs.Place
 use Rattle.poly_law.proofs.Subst
 use Rattle.kill_law.proofs.Taylor
 use Rattle.kill_law.proofs.Taylor.{AllFrom}
-
-zero_one_or_more : (k : ℕ) → (k ≡ 0) ⊎ ((k ≡ 1) ⊎ (2 ≤ k))
-zero_one_or_more k = grind arith
 
 module _ {E V : Type 0} (x : Exps E) (l : IsExps x) (r : RingOps V) (c : IsCommRing r) (s : IsSet V) where
   -- ---- the substitution, for what starts at degree 2 and takes parts of degree o

@@ -4,7 +4,7 @@ use Rattle.ring_theory.specs.Scalars.{Scalars, Meaning}
 use Rattle.poly_law.specs.Polynomials.{Polynomial}
 use Rattle.mono_exp.specs.declared.exponent.Exp.{Exp}
 use Rattle.jet_law.specs.Terms.{poly_of}
-use Rattle.jet_poly.specs.JetTerms.{JetTerms, IsRising}
+use Rattle.jet_poly.specs.JetTerms.{IsRising}
 use Rattle.jet_poly.specs.Jets.{IsJet, whole}
 use Rattle.lin_row.specs.Plain.{Among}
 use Rattle.move_law.specs.Split.{half_inverse, completed_work}

@@ -12,6 +12,7 @@ use Rattle.jet_law.specs.Heights.{IsHigh, sums_heights}
 use Rattle.jet_law.specs.Terms.{exp_of}
 use Rattle.jacobian_row.specs.Rows.{IsJetIn, polynomial_at}
 use Rattle.milnor_alg.specs.declared.quotient.TableRow.{TableRow}
+use Rattle.milnor_alg.specs.Rows.{basis_at}
 use Rattle.check_rows.specs.Products.{sum_of_products, AreProductsHigh}
 
 -- a row over a basis of this size: a monomial in n variables, one valid value for each monomial of the basis, one jet for each variable
@@ -21,10 +22,6 @@ pub record IsTableShape {E V : Type 0} (m : Meaning E V) (n size : ℕ) (row : T
   pub elems : AllByRecursion m.is_elem row.values
   pub count : length row.multipliers ≡ n
   pub jets : All (IsJetIn m n) row.multipliers
-
--- the monomials of a basis, by number
-abbrev pub basis_in : (n : ℕ) → List Exp → ℕ → ExpList n
-basis_in n basis j = exp_of n (get_or basis j (record { e = [] }))
 
 -- the values of a row, by number
 abbrev pub values_in : {E V : Type 0} → Meaning E V → TableRow E → ℕ → V
@@ -36,7 +33,7 @@ difference n r a size b v = term_in n r a ++ (poly_in n r).neg (of_basis (exps n
 
 -- the monomial of a row less the combination of the basis with its values
 abbrev pub difference_of : {E V : Type 0} → Meaning E V → (n : ℕ) → List Exp → TableRow E → Polynomial n V
-difference_of m n basis row = difference n m.scalars.ops (exp_of n row.monomial) (length basis) (basis_in n basis) (values_in m row)
+difference_of m n basis row = difference n m.scalars.ops (exp_of n row.monomial) (length basis) (basis_at n basis) (values_in m row)
 
 -- it is the sum of the products of the multipliers of the row and the h(i), up to degree k
 abbrev pub IsTableRow : {E V : Type 0} → Meaning E V → (n k : ℕ) → List Exp → (ℕ → Polynomial n V) → TableRow E → Type 0

@@ -179,11 +179,6 @@ no_star [] is none = refl
 no_star (star ∷ []) is none = absurd is
 no_star (star ∷ c ∷ r) is none = absurd (none (c ∷ r) (ap (λ (b : ℕ). b ∷ c ∷ r) is.0))
 
--- letters stand behind the star
-pub star_letters : (body letters : List ℕ) → IsBody body → body ≡ 42 ∷ letters → IsLetters letters
-star_letters body [] is e = absurd (subst IsBody e is)
-star_letters body (c ∷ r) is e = (subst IsBody e is).1
-
 pub ends_piece : (x : List ℕ) → Starts IsSign x → Starts EndsPiece x
 ends_piece [] h = tt
 ends_piece (b ∷ bs) (inl e) = (omega (arith, e), λ q. omega (arith, e, q))

@@ -116,9 +116,6 @@ pub record IsReadTo (i : ℕ) (bytes es : List ℕ) (factors : Option (Bor (List
   pub sound : factors_from 49 (take i es) ++ starred factors ≡ 42 ∷ bytes
   pub complete : (fs : List ℕ) → length fs ≡ 8 → AllByRecursion (λ e. e < 256) fs → factors_from 49 fs ≡ 42 ∷ bytes → (take i fs ≡ take i es) × (factors_from (49 + i) (drop i fs) ≡ starred factors)
 
-pub read_none : (bytes es : List ℕ) (factors : Option (Bor (List ℕ))) → length es ≡ 8 → starred factors ≡ 42 ∷ bytes → IsReadTo 0 bytes es factors
-read_none bytes es factors long e = record { long = long; fit = tt; sound = e; complete = λ fs l fit h. (refl, h ∙ sym e) }
-
 -- the exponents fs have es before the place i, and factors of the variable there and of later ones
 left_at : (i : ℕ) (fs : List ℕ) → i < length fs → factors_from (49 + i) (drop i fs) ≡ factor (49 + i) (get_or fs i 0) ++ factors_from (49 + i + 1) (drop (i + 1) fs)
 left_at i fs lt = ap (factors_from (49 + i)) (drop-cons fs i 0 lt ∙ ap (λ n. get_or fs i 0 ∷ drop n fs) (sym (add-one i)))

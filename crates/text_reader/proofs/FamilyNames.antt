@@ -1,17 +1,13 @@
 -- Families by their names.
-use Rattle.std.proofs.Common.{◌≡◌, ◌≢◌, ℕ, ◌<◌, ◌≤◌, ◌^◌, Bool, true, false, ◌&&◌, eqb, ltb, length, List, [], ◌∷◌, ◌++◌, refl, sym, ap, ◌∙◌, append_assoc, subst, arith, IsTrue}
+use Rattle.std.proofs.Common.{◌≡◌, ◌≢◌, ℕ, ◌<◌, ◌≤◌, ◌^◌, Bool, true, false, eqb, length, List, [], ◌∷◌, ◌++◌, refl, sym, ap, ◌∙◌, append_assoc, subst, arith, IsTrue}
 use Rattle.std.specs.Prelude.{decimal}
-use Rattle.std.specs.Cmp.Derive.{both_true}
 use Rattle.std.specs.List.{AllByRecursion}
-use Rattle.std.proofs.lemmas.Bool.{ltb-true, lt-ltb, leb-true, le-leb}
 use Rattle.normal_forms.specs.declared.family.Family.{Family}
 use Rattle.normal_forms.specs.declared.family.Family.TheVariants as families
-use Rattle.normal_forms.specs.Families.{is_family, has_numbers}
+use Rattle.normal_forms.specs.Families.{is_family}
 use Rattle.cert_text.specs.Names.{family_text, family_letters, family_numbers}
-use Rattle.cert_text.specs.WellFormed.{IsFamily}
 use Rattle.cert_law.proofs.Cut.{head, same_front}
 use Rattle.cert_law.proofs.Numbers.{number_one}
-use Rattle.cert_law.proofs.Valid.{both}
 use Rattle.text_reader.specs.Reading.{IsNoText}
 use Rattle.text_reader.specs.Numbers.{three_text, AreSmall, IsHyperbolic, IsSeries}
 use Rattle.text_reader.proofs.Visible.{cut_at, unsplit, digits_lack}
@@ -39,9 +35,6 @@ no_comma n rest bytes lt free e = unsplit 44 (decimal n) rest bytes free e
 pub before_comma : (n : ℕ) (rest front behind bytes : List ℕ) → n < 256 → AllByRecursion (λ b. b ≢ 44) front → bytes ≡ front ++ 44 ∷ behind → decimal n ++ 44 ∷ rest ≡ bytes → decimal n ≡ front
 before_comma n rest front behind bytes lt free is e = (cut_at 44 (decimal n) front rest behind (digits_lack 44 n (omega arith) (wide n lt)) free (e ∙ is)).0
 
-pub not_closed : (n : ℕ) (bytes : List ℕ) → n < 256 → AllByRecursion (λ b. b ≢ 41) bytes → decimal n ++ 41 ∷ [] ≡ bytes → ⊥
-not_closed n bytes lt free e = unsplit 41 (decimal n) [] bytes free e
-
 -- what stands before the parenthesis is the number, and nothing stands behind it
 pub before_close : (n : ℕ) (front behind bytes : List ℕ) → n < 256 → AllByRecursion (λ b. b ≢ 41) front → bytes ≡ front ++ 41 ∷ behind → decimal n ++ 41 ∷ [] ≡ bytes → (decimal n ≡ front) × ([] ≡ behind)
 before_close n front behind bytes lt free is e = cut_at 41 (decimal n) front [] behind (digits_lack 41 n (omega arith) (wide n lt)) free (e ∙ is)
@@ -52,9 +45,6 @@ behind_first t n rest bytes small lt is e = comma_one t.0 n _ rest small.0 lt (s
 
 pub three_first : (t : Three) (bytes : List ℕ) → three_text t ≡ bytes → decimal t.0 ++ 44 ∷ (decimal t.1 ++ 44 ∷ (decimal t.2 ++ 41 ∷ [])) ≡ bytes
 three_first t bytes e = sym (three_is t) ∙ e
-
-pub three_some : (p q r : ℕ) (bytes rest more : List ℕ) → decimal p ++ 44 ∷ rest ≡ bytes → decimal q ++ 44 ∷ more ≡ rest → decimal r ++ 41 ∷ [] ≡ more → three_text (p, q, r) ≡ bytes
-three_some p q r bytes rest more a b c = three_is (p, q, r) ∙ ap (λ z. decimal p ++ 44 ∷ (decimal q ++ 44 ∷ z)) c ∙ ap (λ z. decimal p ++ 44 ∷ z) b ∙ a
 
 pub not_empty : (xs : List ℕ) (r : Bool) → r ≡ eqb (length xs) 0 → r ≡ false → [] ≡ xs → ⊥
 not_empty xs r is e empty = let yes : eqb (length xs) 0 ≡ true = ap (λ z. eqb (length z) 0) (sym empty) in cc
@@ -104,31 +94,3 @@ series_none (families.A m) bytes h e a d t = a m h (sym (a_text m) ∙ e)
 series_none (families.D m) bytes h e a d t = d m h (sym (d_text m) ∙ e)
 series_none (families.T p q r) bytes h e a d t = t (families.T p q r) h e
 series_none _ bytes h e a d t = absurd h
-
--- ---- all families
-
-small_three : (p q r : ℕ) → AreSmall (p, q, r) → (ltb p 256 && (ltb q 256 && ltb r 256)) ≡ true
-small_three p q r h = both_true (lt-ltb p 256 h.0) (both_true (lt-ltb q 256 h.1) (lt-ltb r 256 h.2))
-
-pub series_listed : (f : Family) → IsSeries f → IsFamily f
-series_listed (families.A m) h = both_true (le-leb 1 m h.0) (lt-ltb m 256 h.1)
-series_listed (families.D m) h = both_true (le-leb 4 m h.0) (lt-ltb m 256 h.1)
-series_listed (families.T p q r) h = both_true h.0 (small_three p q r h.1)
-series_listed _ h = absurd h
-
-pub exceptional_listed : (f : Family) → has_numbers f ≡ false → IsFamily f
-exceptional_listed (families.A m) h = absurd cc
-exceptional_listed (families.D m) h = absurd cc
-exceptional_listed (families.T p q r) h = absurd cc
-exceptional_listed _ h = refl
-
--- a family of the list has no numbers in its name, or it is one of the series
-pub family_none : (f : Family) → IsFamily f → (has_numbers f ≡ false → ⊥) → (IsSeries f → ⊥) → ⊥
-family_none (families.A m) h e s = let a = both _ _ h in s (leb-true 1 m a.0, ltb-true m 256 a.1)
-family_none (families.D m) h e s = let a = both _ _ h in s (leb-true 4 m a.0, ltb-true m 256 a.1)
-family_none (families.T p q r) h e s =
-    let a = both (is_family (families.T p q r)) (ltb p 256 && (ltb q 256 && ltb r 256)) h in
-    let b = both (ltb p 256) (ltb q 256 && ltb r 256) a.1 in
-    let d = both (ltb q 256) (ltb r 256) b.1 in
-    s (a.0, (ltb-true p 256 b.0, ltb-true q 256 d.0, ltb-true r 256 d.1))
-family_none _ h e s = e refl

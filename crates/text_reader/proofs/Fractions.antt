@@ -158,14 +158,6 @@ natural_quotient q a b h free e =
 
 -- ---- the sign
 
--- without a sign at its front a text is that of a fraction that is not negative
-pub unsigned_natural : (q : Frac) (bytes : List ℕ) → IsTrue (is_frac q) → fraction_text q ≡ bytes → ((rest : List ℕ) → bytes ≡ 45 ∷ rest → ⊥) → IsNatural q
-unsigned_natural q bytes h e unsigned = (h, by_sign q.num e)
-  where
-    by_sign : (z : ℤ) → signed_decimal z ++ over_text q.den ≡ bytes → is_natural z ≡ true
-    by_sign (pos n) t = refl
-    by_sign (negsuc n) t = absurd (unsigned (decimal (suc n) ++ over_text q.den) (sym t))
-
 -- the opposite of a fraction below 0
 abbrev pub opposite_of : Frac → Frac
 opposite_of q = record { num = pos (unsigned_abs q.num); den = q.den }

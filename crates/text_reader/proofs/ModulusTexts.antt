@@ -1,5 +1,5 @@
 -- Moduli by their texts.
-use Rattle.std.proofs.Common.{◌≡◌, ◌≢◌, ℕ, Bool, true, false, cond, eqb, ◌&&◌, ◌⊎◌, inl, inr, Option, Some, None, List, [], ◌∷◌, ◌++◌, refl, sym, ap, ◌∙◌, subst, append_assoc, append-nil, arith, IsTrue}
+use Rattle.std.proofs.Common.{◌≡◌, ℕ, true, ◌&&◌, inl, List, [], ◌∷◌, ◌++◌, refl, sym, ap, ◌∙◌, append-nil, arith, IsTrue}
 use Rattle.std.specs.Prelude.{codes}
 use Rattle.std.specs.List.{AllByRecursion, flat_map, zip}
 use Rattle.std.specs.Cmp.Derive.{both_true}
@@ -8,13 +8,13 @@ use Rattle.ext_algebra.specs.declared.algebra.Algebra.{Algebra}
 use Rattle.ext_algebra.specs.declared.algebra.Algebra.TheVariants as algebras
 use Rattle.ext_algebra.specs.Fractions.{is_frac}
 use Rattle.ext_algebra.specs.Algebra.{is_algebra}
-use Rattle.poly_text.specs.Numbers.{component_text, is_zero_fraction, piece_text}
-use Rattle.cert_text.specs.Text.{algebra_text, cubic_text, opposite_text, other_sign, square_text}
+use Rattle.poly_text.specs.Numbers.{component_text}
+use Rattle.cert_text.specs.Text.{algebra_text, cubic_text}
 use Rattle.cert_law.specs.Fields.{IsBody}
 use Rattle.cert_law.proofs.Valid.{both}
 use Rattle.text_reader.specs.Pieces.{AreTaken, AreValid, IsTaken}
 use Rattle.text_reader.specs.Moduli.{AreThree, IsQuadratic}
-use Rattle.text_reader.specs.Reading.{IsTextOf, IsNoText}
+use Rattle.text_reader.specs.Reading.{IsTextOf}
 use Rattle.text_reader.proofs.ComponentTexts.{taken_more, taken_none}
 
 abbrev pub quadratic_letters : List (List ℕ)

@@ -1,5 +1,5 @@
 -- Digits without a zero before them are the text of the number that they have, also above 64 bits.
-use Rattle.std.proofs.Common.{◌≡◌, ℕ, zero, suc, ◌+◌, ◌-◌, ◌*◌, ◌/◌, ◌%◌, ◌^◌, ◌<◌, ◌≤◌, List, [], ◌∷◌, ◌++◌, length, get_or, take, Option, Some, None, refl, sym, ap, ◌∙◌, subst, append_assoc, append-nil, arith}
+use Rattle.std.proofs.Common.{◌≡◌, ℕ, zero, suc, ◌+◌, ◌-◌, ◌*◌, ◌/◌, ◌%◌, ◌^◌, ◌<◌, ◌≤◌, List, [], ◌∷◌, ◌++◌, length, get_or, take, Option, Some, None, sym, ap, ◌∙◌, subst, append_assoc, append-nil, arith}
 use Rattle.std.specs.Prelude.{decimal, IfSome}
 use Rattle.std.specs.Char.{digit_value}
 use Rattle.std.specs.Str.Parse.{AllDigits, digits_value, digits_value_after}
@@ -77,9 +77,6 @@ pub canonical : (n : ℕ) (bytes : List ℕ) → n < 10 ^ 64 → decimal n ≡ b
 canonical n bytes small is = subst IsCanonical is ((decimal_is_IsNumeral_wide n small).0.0, zero_alone n small)
 
 -- ---- a loop over the digits
-
-pub value_none : IsValueOf [] 0
-value_none = (refl, tt)
 
 pub value_more : (bytes : List ℕ) (i v : ℕ) → i < length bytes → 48 ≤ get_or bytes i 0 → get_or bytes i 0 ≤ 57 → IsValueOf (take i bytes) v → IsValueOf (take (i + 1) bytes) (v * 10 + (get_or bytes i 0 - 48))
 value_more bytes i v lt low high is =

@@ -198,12 +198,6 @@ not_sign : (s : ℕ) → IsSign s → (s ≢ 43) × (s ≢ 45) → ⊥
 not_sign s (inl e) h = h.0 e
 not_sign s (inr e) h = h.1 e
 
--- nothing stands before letters, and no sign before that
-pub empty_fails : (q : Frac) (s : ℕ) → Front q s [] → (s ≢ 43) × (s ≢ 45) → ⊥
-empty_fails q s (unit e sign is) h = not_sign s sign h
-empty_fails q s (written [] e text is) h = absurd cc
-empty_fails q s (written (b ∷ m) e text is) h = absurd cc
-
 -- no star at the end of what stands before letters
 pub star_fails : (q : Frac) (s : ℕ) (front : List ℕ) → Front q s front → (front ≡ [] → ⊥) → ((m : List ℕ) → front ≡ m ++ 42 ∷ [] → ⊥) → ⊥
 star_fails q s front (unit e sign is) some no_star = some is
@@ -220,11 +214,6 @@ unit_fails q found s front m r ok at some star is test e =
     let same = signed_same q found s m ok.0 is.0.0 h.1 is.1 in
     let other : is_unit_of found ≡ false = subst (λ (p : Frac). is_unit_of p ≡ false) same h.0 in
     absurd (cc (other, test, e))
-
-pub written_some : (q : Frac) (s : ℕ) (front m : List ℕ) (r : Bool) → front ≡ m ++ 42 ∷ [] → IsTextOf IsCoefficient (λ q. signed_text (fraction_text q)) (s ∷ m) q → r ≡ is_unit_of q → r ≡ false → (letters : List ℕ) → IsLetters letters
-    → signed_text (product_text q (42 ∷ letters)) ≡ s ∷ (front ++ letters)
-written_some q s front m r star is test e letters h =
-    other_text q letters is.0.0 (sym test ∙ e) ∙ ap (λ z. z ++ 42 ∷ letters) is.1 ∙ ap (λ z. s ∷ z) (sym (append_assoc m (42 ∷ []) letters) ∙ ap (λ z. z ++ letters) (sym star))
 
 pub is_empty_of : (xs : List ℕ) (r : Bool) → r ≡ eqb (length xs) 0 → r ≡ true → xs ≡ []
 is_empty_of [] r is e = refl

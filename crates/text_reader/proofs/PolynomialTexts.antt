@@ -99,11 +99,6 @@ element_tested a e z r ok is h past = when_by (is_element a e) (is_zero_element 
 
 -- ---- terms that rise
 
-last_by : (ts : List Term) (t : Term) (m : Exp) → is_after_last (ts ++ t ∷ []) m ≡ is_before t.0.e m.e
-last_by [] t m = refl
-last_by (u ∷ []) t m = refl
-last_by (u ∷ v ∷ ts) t m = last_by (v ∷ ts) t m
-
 all_before : (ts : List Term) (t : Term) → IsRising ts → is_after_last ts t.0 ≡ true → AllByRecursion (λ u. is_before u.0.e t.0.e ≡ true) ts
 all_before [] t rising h = tt
 all_before (u ∷ []) t rising h = (h, tt)
@@ -258,18 +253,6 @@ constant_valid n order a us e more are is = by_test (is_zero_element e) refl
 pub no_constant : (n order : ℕ) (a : Algebra) (e : Ext Frac) (z : Bool) → z ≡ is_zero_element e → z ≡ true → ([] ≡ constant_terms e) × AreTermsOf n order a []
 no_constant n order a e z is holds = (ap (λ (t : Bool). cond t [] ((one_monomial, e) ∷ [])) (sym holds ∙ is), record { rising = tt; valid = refl })
 
-pub some_constant : (n order : ℕ) (a : Algebra) (e : Ext Frac) (z r : Bool) (ts : List Term) → ts ≡ (one_monomial, e) ∷ [] → z ≡ is_zero_element e → z ≡ false → r ≡ is_term_of n order a (one_monomial, e) → r ≡ true → (ts ≡ constant_terms e) × AreTermsOf n order a ts
-some_constant n order a e z r ts made is failed test holds = (
-  made ∙ ap (λ (t : Bool). cond t [] ((one_monomial, e) ∷ [])) (sym failed ∙ is),
-  subst (AreTermsOf n order a) (sym made) (record { rising = (tt, tt); valid = both_true (sym test ∙ holds) refl }),
-)
-
-pub bad_constant : (n order : ℕ) (a : Algebra) (e : Ext Frac) (z r : Bool) → z ≡ is_zero_element e → z ≡ false → r ≡ is_term_of n order a (one_monomial, e) → r ≡ false → AreTermsOf n order a (constant_terms e) → ⊥
-bad_constant n order a e z r is failed test fails are =
-    let there : AreTermsOf n order a ((one_monomial, e) ∷ []) = subst (λ (t : Bool). AreTermsOf n order a (cond t [] ((one_monomial, e) ∷ []))) (sym is ∙ failed) are in
-    let holds = (both (is_term_of n order a (one_monomial, e)) true there.valid).0 in
-    absurd (cc (holds, test, fails))
-
 -- ---- term by term
 
 -- what is left of terms behind those that were read
@@ -283,9 +266,6 @@ pub record IsReadUp (n order : ℕ) (a : Algebra) (from : List Term) (all : List
   pub are : AreTermsOf n order a ts
   pub text : terms_text from ++ all ≡ terms_text ts ++ rest
   pub found : (more : List Term) → AreTermsOf n order a (from ++ more) → AllByRecursion IsHigherTerm more → terms_text more ≡ all → (left : List Term) × Remains ts (from ++ more) rest left
-
-pub read_from : (n order : ℕ) (a : Algebra) (ts : List Term) (sum : List ℕ) → AreTermsOf n order a ts → IsReadUp n order a ts sum ts sum
-read_from n order a ts sum are = record { are = are; text = refl; found = λ more valid higher e. (more, record { is = refl; text = e; higher = higher }) }
 
 one_more : (ts : List Term) (t : Term) (rest : List ℕ) → terms_text (ts ++ t ∷ []) ++ rest ≡ terms_text ts ++ (term_text t ++ rest)
 one_more ts t rest =

@@ -27,7 +27,7 @@ use Rattle.text_reader.specs.Elements.{rational_element}
 use Rattle.text_reader.specs.Pieces.{AreFractions, AreValid, IsCoefficient, IsLetters, IsSign, is_unit_of, joined}
 use Rattle.text_reader.specs.Reading.{IsTextOf}
 use Rattle.text_reader.specs.Terms.{before_factors, term_text, IsHigherTerm, IsLong, IsLongTerm, IsSimpleTerm, IsSingle, IsVariable, IsWritten}
-use Rattle.text_reader.proofs.ComponentTexts.{Admits, IsBefore, all_unsigned, ends_piece, letters_all, lettered, not_sign, not_zero, piece_shape, unsigned, zero_is}
+use Rattle.text_reader.proofs.ComponentTexts.{Admits, IsBefore, all_unsigned, ends_piece, letters_all, lettered, not_zero, piece_shape, unsigned, zero_is}
 use Rattle.text_reader.proofs.ElementTexts.{components_text_is, element_same, rational_fractions, small, some_product}
 use Rattle.text_reader.proofs.PieceTexts.{Front, unit, written, front_of, other_text, signed_front, signed_list}
 use Rattle.text_reader.proofs.Places.{byte_some}

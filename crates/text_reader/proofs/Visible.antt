@@ -28,9 +28,6 @@ IsVisible b = 40 ≤ b
 pub no_byte : (byte : ℕ) → byte < 40 → (xs : List ℕ) → AllByRecursion IsVisible xs → AllByRecursion (λ b. b ≢ byte) xs
 no_byte byte lt xs h = all_to IsVisible (λ b. b ≢ byte) (λ b le e. omega (arith, lt, le, e)) xs h
 
-pub visible-decimal : (n : ℕ) → n < 10 ^ 64 → AllByRecursion IsVisible (decimal n)
-visible-decimal n lt = all_to IsDigit IsVisible (λ b d. omega (arith, d.0)) (decimal n) (digits n lt)
-
 -- the digits of a number are no such byte
 pub digits_lack : (byte n : ℕ) → byte < 48 → n < 10 ^ 64 → AllByRecursion (λ b. b ≢ byte) (decimal n)
 digits_lack byte n low lt = all_to IsDigit (λ b. b ≢ byte) (λ b d e. omega (arith, low, d.0, e)) (decimal n) (digits n lt)

@@ -1,4 +1,4 @@
-use Rattle.std.proofs.Common.{◌≡◌, map, length, sym, ap, subst, ◌∙◌}
+use Rattle.std.proofs.Common.{map, length, sym, ap, subst, ◌∙◌}
 use Rattle.std.specs.List.{All}
 use Rattle.ring_law.proofs.Exits.{faulted}
 use Rattle.report_jet.proofs.ReportJets.{algebra_valid, jet_valid}

@@ -1,4 +1,4 @@
-use Rattle.std.proofs.Common.{◌≤◌, ◌^◌, ◌≡◌, false, not, map, length, inl, refl, sym, ap, subst, ◌∙◌}
+use Rattle.std.proofs.Common.{◌≤◌, ◌^◌, false, not, map, length, inl, refl, sym, ap, subst, ◌∙◌}
 use Rattle.std.specs.List.{list_all}
 use Rattle.ext_algebra.specs.Algebra.{Value, scalars, value_in}
 use Rattle.lin_row.specs.Plain.{Among}

@@ -1,4 +1,4 @@
-use Rattle.std.proofs.Common.{false, ◌≡◌, ◌≤◌, ◌^◌, ◌∷◌, [], ◌++◌, map, take_all, All, sym, ap, ap₂, subst, ◌∙◌, arith}
+use Rattle.std.proofs.Common.{false, ◌≤◌, ◌^◌, [], map, take_all, All, sym, ap, ap₂, subst, ◌∙◌, arith}
 use Rattle.ring_law.proofs.Exits.{faulted}
 use Rattle.jet_subst.proofs.Tables.{all_push}
 use Rattle.normal_forms.proofs.Sums.{taken-push}

@@ -1,6 +1,5 @@
 -- The first variable with a linear coefficient is one.
-use Rattle.report_law.specs.Right.{IsHighLine}
-use Rattle.check_line.proofs.LineTests.{one_linear, tested_by, high_line, germ_no_linear, syntax_no_linear, literal_no_linear}
+use Rattle.check_line.proofs.LineTests.{one_linear, tested_by, high_line, germ_no_linear, literal_no_linear}
 use Rattle.check_line.proofs.refusal.test_not_critical.Goals as goal
 
 pub returns-in-Ok-NotCritical : goal.returns-in-Ok-NotCritical

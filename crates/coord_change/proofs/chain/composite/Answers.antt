@@ -1,4 +1,4 @@
-use Rattle.std.proofs.Common.{◌≡◌, ℕ, ◌<◌, ◌≤◌, List, [], ◌∷◌, map, length, All, sym, ◌∙◌, ap, subst, arith}
+use Rattle.std.proofs.Common.{◌≡◌, ℕ, ◌<◌, List, [], map, All, sym, ◌∙◌, ap, subst}
 use Rattle.ring_law.proofs.Exits.{fault_handed_on}
 use Rattle.jet_poly.specs.JetTerms.{JetTerms}
 use Rattle.coord_change.specs.declared.change.Change.{Change}

@@ -1,4 +1,4 @@
-use Rattle.std.proofs.Common.{◌≡◌, ◌+◌, ◌<◌, ◌≤◌, suc, List, map, length, All, sym, ◌∙◌, ap, subst, arith}
+use Rattle.std.proofs.Common.{◌≡◌, ◌+◌, suc, List, map, length, All, sym, ◌∙◌, ap, subst, arith}
 use Rattle.ring_law.proofs.Exits.{fault_handed_on}
 use Rattle.jet_law.specs.Canonical.{jet}
 use Rattle.jet_poly.specs.JetTerms.{JetTerms}

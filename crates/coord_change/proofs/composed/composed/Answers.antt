@@ -1,4 +1,4 @@
-use Rattle.std.proofs.Common.{◌≡◌, ◌+◌, ◌<◌, ◌≤◌, List, map, length, sym, ◌∙◌, ap, subst, refl, arith}
+use Rattle.std.proofs.Common.{◌+◌, ◌<◌, map, length, sym, ◌∙◌, ap, subst, refl, arith}
 use Rattle.ring_law.proofs.Exits.{fault_handed_on}
 use Rattle.jet_law.specs.Canonical.{jet}
 use Rattle.coord_change.specs.declared.change.Change.{Change}

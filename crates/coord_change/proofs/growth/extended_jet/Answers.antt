@@ -1,4 +1,4 @@
-use Rattle.std.proofs.Common.{◌≡◌, ℕ, ◌+◌, ◌≤◌, ◌++◌, List, All, sum, sym, ◌∙◌, ap, subst, arith}
+use Rattle.std.proofs.Common.{◌≡◌, ℕ, ◌+◌, ◌≤◌, List, All, sum, sym, ◌∙◌, subst, arith}
 use Rattle.ring_law.proofs.Exits.{fault_handed_on}
 use Rattle.poly_law.specs.ExpList.{exps}
 use Rattle.poly_law.specs.Polynomials.{SameIn, substitute}
@@ -10,7 +10,6 @@ use Rattle.jet_subst.specs.Parts.{part_of, variables_of}
 use Rattle.jet_subst.specs.Substitutions.{IsSubstHigh}
 use Rattle.coord_change.specs.Moves.{move_from}
 use Rattle.coord_change.specs.Carries.{carry}
-use Rattle.coord_change.specs.CarryHeights.{IsCarryHigh}
 use Rattle.coord_change.specs.MoveJets.{IsJetFor}
 use Rattle.coord_change.proofs.Canonicals
 use Rattle.coord_change.proofs.ChangeLemmas

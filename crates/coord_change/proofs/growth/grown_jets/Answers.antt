@@ -1,4 +1,4 @@
-use Rattle.std.proofs.Common.{◌≡◌, ◌+◌, ◌≤◌, ◌<◌, List, [], ◌∷◌, ◌++◌, map, take, take_all, length, sym, ◌∙◌, ap, subst, refl, arith}
+use Rattle.std.proofs.Common.{◌≡◌, ◌+◌, ◌≤◌, [], ◌∷◌, ◌++◌, map, take, take_all, length, sym, ◌∙◌, ap, subst, refl, arith}
 use Rattle.ring_law.proofs.Exits.{fault_handed_on}
 use Rattle.jet_law.specs.Terms.{poly_of}
 use Rattle.jet_law.specs.Canonical.{jet}

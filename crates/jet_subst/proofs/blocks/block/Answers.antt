@@ -1,4 +1,4 @@
-use Rattle.std.proofs.Common.{◌≡◌, List, All, [], take_all, length, refl, sym, ◌∙◌, subst, arith}
+use Rattle.std.proofs.Common.{All, [], take_all, refl, sym, ◌∙◌, subst, arith}
 use Rattle.ring_law.proofs.Exits.{fault_handed_on, faulted_by}
 use Rattle.poly_law.specs.ExpList.{exps}
 use Rattle.poly_law.specs.Polynomials.{SameIn, cut_in}

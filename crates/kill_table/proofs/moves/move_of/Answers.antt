@@ -1,4 +1,4 @@
-use Rattle.std.proofs.Common.{◌≡◌, ◌+◌, ◌<◌, ◌≤◌, ◌∙◌, inl, List, All, map, sym, subst, arith}
+use Rattle.std.proofs.Common.{◌≡◌, ◌+◌, ◌∙◌, inl, List, All, map, sym, subst, arith}
 use Rattle.std.specs.List.{AllByRecursion}
 use Rattle.ring_law.specs.Refusals.{FaultBy}
 use Rattle.ring_law.proofs.Exits.{fault_handed_on}

@@ -1,4 +1,4 @@
-use Rattle.std.proofs.Common.{◌≡◌, [], ◌∷◌, ◌++◌, map, flat_map, refl, sym, subst, arith}
+use Rattle.std.proofs.Common.{[], ◌∷◌, ◌++◌, map, flat_map, refl, sym, subst, arith}
 use Rattle.std.specs.Prelude.{OnOk, Contains}
 use Rattle.ring_law.specs.Refusals.{OnFault}
 use Rattle.ring_law.proofs.Exits.{fault_handed_on, faulted_by}

@@ -1,4 +1,4 @@
-use Rattle.std.proofs.Common.{◌≡◌, map}
+use Rattle.std.proofs.Common.{map}
 use Rattle.kill_table.proofs.Leaving.{takes-one}
 use Rattle.kill_table.proofs.moves.push_entry.Goals as goal
 

@@ -1,4 +1,4 @@
-use Rattle.std.proofs.Common.{◌≡◌, ◌<◌, ◌≤◌, ◌∙◌, inl, inr, [], ◌∷◌, ◌++◌, All, map, take_all, sym, ap, subst, arith}
+use Rattle.std.proofs.Common.{◌∙◌, inl, inr, [], ◌∷◌, ◌++◌, All, map, take_all, sym, ap, subst, arith}
 use Rattle.ring_law.proofs.Exits.{fault_handed_on}
 use Rattle.poly_law.specs.ExpList.{exps}
 use Rattle.poly_law.specs.Polynomials.{cut_in}

@@ -1,4 +1,4 @@
-use Rattle.std.proofs.Common.{◌≡◌, ◌∙◌, ◌<◌, ◌≤◌, List, [], ◌∷◌, All, map, length, sym, ap, subst, arith}
+use Rattle.std.proofs.Common.{◌∙◌, List, [], All, map, length, sym, ap, subst, arith}
 use Rattle.std.specs.Prelude.{IfOk}
 use Rattle.ring_law.specs.Refusals.{OnFault}
 use Rattle.mono_exp.specs.declared.exponent.Exp.{Exp}

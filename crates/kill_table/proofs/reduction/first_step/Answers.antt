@@ -1,4 +1,4 @@
-use Rattle.std.proofs.Common.{◌≡◌, ◌≤◌, All, take_all, refl, subst, arith}
+use Rattle.std.proofs.Common.{◌≡◌, All, take_all, refl, subst, arith}
 use Rattle.std.specs.Prelude.{None}
 use Rattle.mono_exp.specs.declared.exponent.Exp.{Exp}
 use Rattle.jet_law.specs.Terms.{exp_of}

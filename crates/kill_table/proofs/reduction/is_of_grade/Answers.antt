@@ -1,4 +1,4 @@
-use Rattle.std.proofs.Common.{◌≡◌, ◌++◌, ◌-◌, ◌&&◌, ◌∙◌, eqb, eqb-true, eq-eqb, drop, length, sym, ap}
+use Rattle.std.proofs.Common.{◌≡◌, ◌-◌, ◌&&◌, ◌∙◌, eqb, eqb-true, eq-eqb, drop, length, sym, ap}
 use Rattle.std.specs.List.{list_all}
 use Rattle.mono_exp.specs.Exponents.{weighted_degree_of}
 use Rattle.kill_law.specs.Table.{row}

@@ -1,4 +1,4 @@
-use Rattle.std.proofs.Common.{◌≡◌, ◌+◌, ◌*◌, ◌<◌, ◌≤◌, ◌∙◌, List, [], ◌∷◌, ◌++◌, All, map, length, sym, ap, subst, arith}
+use Rattle.std.proofs.Common.{◌≡◌, ◌+◌, ◌*◌, ◌<◌, List, [], All, map, length, sym, ap, subst, arith}
 use Rattle.std.specs.Prelude.{None}
 use Rattle.ring_law.proofs.Exits.{fault_handed_on}
 use Rattle.mono_exp.specs.declared.exponent.Exp.{Exp}

@@ -1,4 +1,4 @@
-use Rattle.std.proofs.Common.{◌≡◌, ◌*◌, length, map}
+use Rattle.std.proofs.Common.{◌*◌, length, map}
 use Rattle.std.specs.Prelude.{filter}
 use Rattle.jet_law.specs.Terms.{poly_of}
 use Rattle.kill_table.specs.Steps.{is_graded}

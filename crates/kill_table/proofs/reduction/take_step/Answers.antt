@@ -1,4 +1,4 @@
-use Rattle.std.proofs.Common.{◌≡◌, List, map, subst, ◌∙◌}
+use Rattle.std.proofs.Common.{List, map, subst, ◌∙◌}
 use Rattle.ring_law.proofs.Exits.{faulted, faulted_by}
 use Rattle.mono_exp.specs.declared.exponent.Exp.{Exp}
 use Rattle.kill_table.specs.Terms.{IsAdded, IsAddingHigh}

@@ -1,5 +1,5 @@
 -- The jet of the residual terms, in the residual variables.
-use Rattle.std.proofs.Common.{◌≡◌, true, ap, subst, sym, ◌∙◌, refl}
+use Rattle.std.proofs.Common.{ap, subst, sym, ◌∙◌, refl}
 use Rattle.ring_law.specs.declared.fraction.Frac.{Frac}
 use Rattle.ext_algebra.specs.declared.algebra.Ext.{Ext}
 use Rattle.ext_algebra.specs.Algebra.{algebra_meaning, value_in}

@@ -1,4 +1,4 @@
-use Rattle.std.proofs.Common.{◌≡◌, ◌<◌, refl, true≢false, sym, ap, ◌∙◌, arith}
+use Rattle.std.proofs.Common.{◌<◌, refl, true≢false, sym, ap, ◌∙◌, arith}
 use Rattle.poly_law.specs.Exps.{same}
 use Rattle.poly_law.specs.ExpList.{exps}
 use Rattle.poly_law.proofs.ExpLists.{exps_are}

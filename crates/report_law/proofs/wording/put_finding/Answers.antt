@@ -1,5 +1,5 @@
 -- The words of bad text, joined to what stood there before.
-use Rattle.std.proofs.Common.{◌≡◌, ◌++◌, sym, ◌∙◌, ap, append_assoc, codes, decimal}
+use Rattle.std.proofs.Common.{◌++◌, sym, ◌∙◌, ap, append_assoc, codes, decimal}
 use Rattle.report_law.specs.Verdicts.{finding_text}
 use Rattle.report_law.proofs.wording.put_finding.Goals as goal
 

@@ -3,7 +3,8 @@ use Rattle.mono_exp.specs.declared.exponent.Exp.{Exp}
 use Rattle.jet_law.specs.Terms.{exp_of, poly_of}
 use Rattle.check_rows.specs.Lists.{AreTermsIn}
 use Rattle.check_rows.proofs.ListLemmas.{terms_none, terms_push}
-use Rattle.table_rows.specs.Tables.{difference, basis_in, values_in}
+use Rattle.milnor_alg.specs.Rows.{basis_at}
+use Rattle.table_rows.specs.Tables.{difference, values_in}
 use Rattle.table_rows.proofs.Differences.{difference_step, value_is}
 use Rattle.table_rows.proofs.difference.difference_terms.Goals as goal
 
@@ -31,7 +32,7 @@ loop-j-preserved g c =
     rw c.in_ok-push-2.ensures.items
     (record {
       valid = terms_push m n c.loop-j.terms.items (get_or c.args.basis.now j d) c.neg.result c.loop-j.invariant.valid c.neg.ensures.elem (c.requires.basis j d c.loop-j-test.true);
-      so_far = difference_step m laws n (exp_of n row.monomial) j (basis_in n c.args.basis.now) (values_in m row) c.loop-j.terms.items (get_or c.args.basis.now j d) c.neg.result refl
+      so_far = difference_step m laws n (exp_of n row.monomial) j (basis_at n c.args.basis.now) (values_in m row) c.loop-j.terms.items (get_or c.args.basis.now j d) c.neg.result refl
           (c.neg.ensures.value ∙ ap m.scalars.ops.neg (value_is m laws n row c.as_slice-values.result.now j v c.as_slice-values.ensures inside c.index-values-j.is)) c.loop-j.invariant.so_far;
     })
 
@@ -40,4 +41,4 @@ returns-clause-terms g c =
     let m = g.R.Ring.meaning c.args.ring.now in
     let n = c.args.n in
     let end : c.loop-j.j ≡ length c.args.basis.now = (let h = c.loop-j-test.false in let a = c.loop-j.auto in omega arith) in
-    c.loop-j.invariant.so_far ∙ ap (λ s. difference n m.scalars.ops (exp_of n c.args.row.now.monomial) s (basis_in n c.args.basis.now) (values_in m c.args.row.now)) end
+    c.loop-j.invariant.so_far ∙ ap (λ s. difference n m.scalars.ops (exp_of n c.args.row.now.monomial) s (basis_at n c.args.basis.now) (values_in m c.args.row.now)) end

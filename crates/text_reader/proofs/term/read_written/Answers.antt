@@ -1,6 +1,5 @@
-use Rattle.std.proofs.Common.{[], refl, sym, ap, ◌∙◌, ◌++◌, append-nil, subst, true≢false}
+use Rattle.std.proofs.Common.{[], sym, ap, ◌∙◌, ◌++◌, append-nil, subst}
 use Rattle.poly_text.specs.Numbers.{components_text, letters}
-use Rattle.text_reader.specs.Pieces.{joined}
 use Rattle.text_reader.specs.Terms.{IsWritten}
 use Rattle.text_reader.proofs.ComponentTexts.{follows_none}
 use Rattle.text_reader.proofs.ElementTexts.{element_found, element_front, nothing_left, something_left}
