@@ -28,7 +28,7 @@ use Rattle.move_law.specs.Split.{squares_in}
 use Rattle.split_lemma.specs.SplitForms.{IsSplitUpTo}
 use Rattle.split_lemma.proofs.Residuals
 use Rattle.split_lemma.proofs.Residuals.{at_mapped}
-use Rattle.kept_law.specs.KeptParts.{IsBasePart, StartsAtPart, kill_off, AllKillsKeep}
+use Rattle.kept_law.specs.KeptParts.{IsBasePart, StartsAtPart, kill_off, AllKillsKeep, KillsLeaveOthers}
 use Rattle.kept_law.proofs.Agreeing.{letters_agree, low_agrees}
 use Rattle.kept_law.proofs.PartDegrees.{part_degree}
 use Rattle.kept_law.proofs.LeadTable
@@ -210,3 +210,8 @@ module _ {V : Type 0} (s : Scalars V) (laws : ScalarLaws s) where
             ∙ sym (Residuals.coefficient-residual n c fewer s laws (suc o) f b (omega arith))
             ∙ low b h);
       }
+
+pub kills_leave_others : {V : Type 0} (s : Scalars V) → KillsLeaveOthers s
+unfolding kill_move
+kills_leave_others s n grade letters p fewer f i past inside =
+    at_mapped (killed n s letters p grade f) n i [] inside ∙ ap (λ g. (variable (exps n) i, s.ops.one) ∷ g) (LeadTable.takes_none n p fewer grade s letters f i past)

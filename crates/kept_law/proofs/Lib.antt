@@ -6,3 +6,4 @@ pub mod OwnMoves
 pub mod KillMoves
 pub mod OwnSteps
 pub mod KillLeads
+pub mod LeftMonomials

@@ -1,6 +1,6 @@
 -- What the moves of an order keep of all that the plan has reached: the coefficients of the squares, the split form, the letters of the part, and that nothing residual
 -- stands below its degree. The square variables are those from c on, the residual ones the first c.
-use Rattle.std.specs.Prelude.{◌≡◌, ℕ, suc, ◌<◌, ◌≤◌, true, length, List, Contains}
+use Rattle.std.specs.Prelude.{◌≡◌, ℕ, suc, ◌<◌, ◌≤◌, ◌⊎◌, true, length, List, map, get_or, Contains}
 use Rattle.std.specs.List.{AllByRecursion}
 use Rattle.ring_theory.specs.Scalars.{Scalars}
 use Rattle.poly_law.specs.Exps.{degree}
@@ -9,16 +9,20 @@ use Rattle.poly_law.specs.Poly.{place}
 use Rattle.poly_law.specs.Polynomials.{Polynomial, SameToIn, StartsAtIn, HaveNoConstant, coefficient_in}
 use Rattle.mono_exp.specs.Exponents.{weighted_degree_of}
 use Rattle.jet_law.specs.Canonical.{jet, monomial_in}
+use Rattle.normal_forms.specs.declared.family.Family.{Family}
+use Rattle.normal_forms.specs.Families.{sum_of}
 use Rattle.kill_law.specs.declared.lead.Lead.{Lead}
 use Rattle.kill_law.specs.declared.part.Part.{Part}
+use Rattle.kill_law.specs.declared.part.Part.TheVariants as parts
 use Rattle.kill_law.specs.Table.{row}
 use Rattle.kill_law.specs.Kill.{letters_of, divides}
 use Rattle.kill_law.specs.Leads.{HasInvertibleDivisors, form_of}
 use Rattle.kill_law.specs.Taken.{kill_move}
-use Rattle.coord_change.specs.Moves.{Move, put}
+use Rattle.coord_change.specs.Moves.{Move, put, variable_of}
 use Rattle.coord_change.specs.Carries.{carry, carry_all}
 use Rattle.move_law.specs.Moves.{residual}
 use Rattle.move_law.specs.Split.{squares_in}
+use Rattle.move_law.specs.Finish.{Choice, choices}
 use Rattle.split_lemma.specs.SplitForms.{IsSplitUpTo, split_off}
 
 module _ {V : Type 0} (n : ℕ) (s : Scalars V) (c : ℕ) where
@@ -81,6 +85,31 @@ HaveNoConstants n s moves = AllByRecursion (λ m. HaveNoConstant n s.ops n (put 
 abbrev pub LeadsAreInvertible : {V : Type 0} → Scalars V → List V → Part → Type 0
 LeadsAreInvertible s letters p = (l : Lead) → Contains (row p).leads l → HasInvertibleDivisors s letters l
 
+-- a lead of the part divides the monomial b in the part's variables
+pub record IsDivided (p : Part) (b : ExpList (length (row p).weights)) : Type 0 where
+  pub lead : Lead
+  pub among : Contains (row p).leads lead
+  pub divided : divides (length (row p).weights) (monomial_in (length (row p).weights) lead.monomial) b ≡ true
+
+-- of greater weighted degree than the form of the part: each monomial that no lead divides is one of the family's sum, its modulus monomial, and no lead divides that
+pub record LeavesModulus (p : Part) (family : Family) : Type 0 where
+  pub only : (b : ExpList (length (row p).weights)) → (row p).degree < weighted_degree_of (row p).weights b.entries
+      → IsDivided p b ⊎ Contains (map (monomial_in (length (row p).weights)) (sum_of family)) b
+  pub stays : (m : List ℕ) → Contains (sum_of family) m → (row p).degree < weighted_degree_of (row p).weights m → IsDivided p (monomial_in (length (row p).weights) m) → ⊥
+
+-- of greater weighted degree than the form of the part: each monomial with the first variable is divided by a lead, and no power of the second is
+pub record LeavesPowers (p : Part) : Type 0 where
+  pub only : (b : ExpList (length (row p).weights)) → (row p).degree < weighted_degree_of (row p).weights b.entries → IsDivided p b ⊎ (get_or b.entries 0 0 ≡ 0)
+  pub stays : (b : ExpList (length (row p).weights)) → get_or b.entries 0 0 ≡ 0 → IsDivided p b → ⊥
+
+-- of each graded part that a finish chooses no lead leaves a monomial of greater weight but the modulus monomial of its family
+abbrev pub ChoicesLeaveModulus : Type 0
+ChoicesLeaveModulus = (base : Part) (ch : Choice) → Contains (choices base) ch → LeavesModulus ch.part ch.family
+
+-- of the part of T(2,3,r) they leave the powers of the second variable
+abbrev pub TailLeavesPowers : Type 0
+TailLeavesPowers = LeavesPowers parts.JT
+
 -- all weights of the part are 1: its form is homogeneous
 abbrev pub IsBasePart : Part → Type 0
 IsBasePart p = AllByRecursion (λ w. w ≡ 1) (row p).weights
@@ -125,6 +154,11 @@ module _ {V : Type 0} (s : Scalars V) where
   AllSplitsKeep = (n c o : ℕ) (p : Part) → c ≤ n → (row p).degree ≤ o → (f : Polynomial n V) → StartsAtIn n s.ops 2 f → IsSplitUpTo n s c 2 f
       → StartsAtPart n s c (suc o) p f
       → SplitKeepsPart n s c o p f
+
+  -- the kill move of a grade puts for each variable past the part's own this variable
+  abbrev pub KillsLeaveOthers : Type 0
+  KillsLeaveOthers = (n grade : ℕ) (letters : List V) (p : Part) → length (row p).weights ≤ n → (f : Polynomial n V)
+      → (i : ℕ) → length (row p).weights ≤ i → i < n → put n s (kill_move n s letters p grade f) i ≡ variable_of n s i
 
   -- what the kill move of a base part, of a degree above that of the part, keeps, where f is split up to that degree and nothing residual stands below the degree of the part
   abbrev pub AllKillsKeep : Type 0

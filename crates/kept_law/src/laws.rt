@@ -1,7 +1,7 @@
 //! Laws of carried jets, of the split move and of the base kill, each the contract of a function
 //! that does nothing.
 
-ghost use Rattle.kept_law.specs.KeptParts.{AllKillsKeep, AllSplitsKeep, GradesAreKilled, JetsLow, KillsLeaveNoLead, LettersAgree, LettersStay, LowAgrees, LowStays, SplitStays, SquaresStay};
+ghost use Rattle.kept_law.specs.KeptParts.{AllKillsKeep, AllSplitsKeep, ChoicesLeaveModulus, GradesAreKilled, JetsLow, KillsLeaveNoLead, KillsLeaveOthers, LettersAgree, LettersStay, LowAgrees, LowStays, SplitStays, SquaresStay, TailLeavesPowers};
 
 use ring_law::Ring;
 
@@ -69,4 +69,17 @@ pub fn kills_leave_no_lead<R: Ring>()
 /// lead of the part divides.
 pub fn grades_are_killed<R: Ring>()
     ensures { (a : R) → R.is_ring a → GradesAreKilled (R.meaning a).scalars }
+{}
+
+/// The kill move of a grade leaves the variables past the part's own: what it puts for each of them
+/// is the variable itself.
+pub fn kills_leave_others<R: Ring>()
+    ensures { (a : R) → R.is_ring a → KillsLeaveOthers (R.meaning a).scalars }
+{}
+
+/// Of greater weight than a graded part no lead leaves a monomial but the modulus monomial of the
+/// family; of the part of T(2,3,r) the powers of the second variable are left.
+pub fn modulus_is_left()
+    ensures families { ChoicesLeaveModulus }
+    ensures powers { TailLeavesPowers }
 {}

@@ -1,5 +1,5 @@
 mod Divisors
-mod MadeMoves
+pub mod MadeMoves
 mod Pairs
 pub mod FinishChoices
 pub mod FinishHeights
