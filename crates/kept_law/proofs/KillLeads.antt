@@ -79,7 +79,7 @@ leads_own parts.S12 = refl
 leads_own parts.U12 = refl
 leads_own parts.JT = refl
 
-forms_weigh : (p : Part) → list_all (λ m. eqb (weighted_degree_of (row p).weights (monomial_in (length (row p).weights) m).entries) (row p).degree) (row p).form ≡ true
+pub forms_weigh : (p : Part) → list_all (λ m. eqb (weighted_degree_of (row p).weights (monomial_in (length (row p).weights) m).entries) (row p).degree) (row p).form ≡ true
 unfolding row
 forms_weigh parts.D4 = refl
 forms_weigh parts.D = refl
@@ -477,7 +477,7 @@ module _ {V : Type 0} (s : Scalars V) (laws : ScalarLaws s) where
 
   -- ---- graded kills
 
-  grades : (n k grade : ℕ) (p : Part) (fewer : length (row p).weights ≤ n) → 2 ≤ k → (row p).degree < grade → (f : Polynomial n V) → IsSplitUpTo n s (length (row p).weights) k f
+  pub grades : (n k grade : ℕ) (p : Part) (fewer : length (row p).weights ≤ n) → 2 ≤ k → (row p).degree < grade → (f : Polynomial n V) → IsSplitUpTo n s (length (row p).weights) k f
       → HasPrincipalPart n s (length (row p).weights) p f → ((l : Lead) → Contains (row p).leads l → HasInvertibleDivisors s (letters_of n s p f) l)
       → GradeIsKilled n s (length (row p).weights) k grade p f
   grades n k grade p fewer two above f split principal units =

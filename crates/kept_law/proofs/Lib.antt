@@ -7,3 +7,4 @@ pub mod KillMoves
 pub mod OwnSteps
 pub mod KillLeads
 pub mod LeftMonomials
+pub mod GradedKills

@@ -22,7 +22,7 @@ use Rattle.coord_change.specs.Moves.{Move, put, variable_of}
 use Rattle.coord_change.specs.Carries.{carry, carry_all}
 use Rattle.move_law.specs.Moves.{residual}
 use Rattle.move_law.specs.Split.{squares_in}
-use Rattle.move_law.specs.Finish.{Choice, choices}
+use Rattle.move_law.specs.Finish.{Choice, choices, begin_finish, graded_kill}
 use Rattle.split_lemma.specs.SplitForms.{IsSplitUpTo, split_off}
 
 module _ {V : Type 0} (n : ℕ) (s : Scalars V) (c : ℕ) where
@@ -76,6 +76,24 @@ module _ {V : Type 0} (n : ℕ) (s : Scalars V) (c : ℕ) where
         → residual_at (kill_grade k grade p f) b ≡ residual_at f b
     pub reduced : (l : Lead) → Contains (row p).leads l → (b : ExpList c) → degree (exps c) b ≤ k → weighted_degree_of (row p).weights b.entries ≡ grade
         → divides c (monomial_in c l.monomial) b ≡ true → residual_at (kill_grade k grade p f) b ≡ s.ops.zero
+
+  -- no term of f has a degree above k
+  abbrev pub EndsAt : ℕ → Polynomial n V → Type 0
+  EndsAt k f = (m : ExpList n) → k < degree (exps n) m → coefficient_in n s.ops f m ≡ s.ops.zero
+
+  -- what the kills of all grades of a part, one after the other, leave of f up to degree k
+  abbrev pub graded_off : ℕ → Part → Polynomial n V → Polynomial n V
+  graded_off k p f = (graded_kill n s k p (begin_finish n s k f)).form
+
+  -- they keep the split form, the coefficients of the squares, the principal part and its letters; and they leave no residual term of greater weighted degree than the
+  -- form of the part that a lead divides
+  pub record GradesAreGone (k : ℕ) (p : Part) (f : Polynomial n V) : Type 0 where
+    pub split : IsSplitUpTo n s c k (graded_off k p f)
+    pub squares : squares_in n s c (graded_off k p f) ≡ squares_in n s c f
+    pub principal : HasPrincipalPart p (graded_off k p f)
+    pub letters : letters_of n s p (graded_off k p f) ≡ letters_of n s p f
+    pub reduced : (l : Lead) → Contains (row p).leads l → (b : ExpList c) → (row p).degree < weighted_degree_of (row p).weights b.entries
+        → divides c (monomial_in c l.monomial) b ≡ true → residual_at (graded_off k p f) b ≡ s.ops.zero
 
 -- the moves put nothing constant for a variable
 abbrev pub HaveNoConstants : {V : Type 0} → (n : ℕ) → Scalars V → List (Move n V) → Type 0
@@ -181,3 +199,16 @@ module _ {V : Type 0} (s : Scalars V) where
   GradesAreKilled = (n c k grade : ℕ) (p : Part) → c ≤ n → length (row p).weights ≡ c → 2 ≤ k → (row p).degree < grade → (f : Polynomial n V)
       → IsSplitUpTo n s c k f → HasPrincipalPart n s c p f
       → LeadsAreInvertible s (letters_of n s p f) p → GradeIsKilled n s c k grade p f
+
+  -- so for all grades one after the other, where f has no term of degree above k, which is at most 16
+  abbrev pub AllGradesAreGone : Type 0
+  AllGradesAreGone = (n c k : ℕ) (p : Part) → c ≤ n → length (row p).weights ≡ c → 2 ≤ k → k ≤ 16 → (f : Polynomial n V)
+      → EndsAt n s c k f → IsSplitUpTo n s c k f → HasPrincipalPart n s c p f
+      → LeadsAreInvertible s (letters_of n s p f) p → GradesAreGone n s c k p f
+
+  -- and where the part is one that a finish chooses, each residual term of greater weighted degree than its form is one of the family's sum, the modulus term
+  abbrev pub OnlyModulusIsLeft : Type 0
+  OnlyModulusIsLeft = (n k : ℕ) (base : Part) (ch : Choice) → Contains (choices base) ch → let p = ch.part in let c = length (row p).weights in
+      c ≤ n → 2 ≤ k → k ≤ 16 → (f : Polynomial n V) → EndsAt n s c k f → IsSplitUpTo n s c k f → HasPrincipalPart n s c p f → LeadsAreInvertible s (letters_of n s p f) p
+      → (b : ExpList c) → (row p).degree < weighted_degree_of (row p).weights b.entries
+      → (residual_at n s c (graded_off n s c k p f) b ≡ s.ops.zero) ⊎ Contains (map (monomial_in c) (sum_of ch.family)) b

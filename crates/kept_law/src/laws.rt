@@ -1,7 +1,7 @@
 //! Laws of carried jets, of the split move and of the base kill, each the contract of a function
 //! that does nothing.
 
-ghost use Rattle.kept_law.specs.KeptParts.{AllKillsKeep, AllSplitsKeep, ChoicesLeaveModulus, GradesAreKilled, JetsLow, KillsLeaveNoLead, KillsLeaveOthers, LettersAgree, LettersStay, LowAgrees, LowStays, SplitStays, SquaresStay, TailLeavesPowers};
+ghost use Rattle.kept_law.specs.KeptParts.{AllGradesAreGone, AllKillsKeep, AllSplitsKeep, ChoicesLeaveModulus, GradesAreKilled, JetsLow, KillsLeaveNoLead, KillsLeaveOthers, LettersAgree, LettersStay, LowAgrees, LowStays, OnlyModulusIsLeft, SplitStays, SquaresStay, TailLeavesPowers};
 
 use ring_law::Ring;
 
@@ -82,4 +82,13 @@ pub fn kills_leave_others<R: Ring>()
 pub fn modulus_is_left()
     ensures families { ChoicesLeaveModulus }
     ensures powers { TailLeavesPowers }
+{}
+
+/// The kills of all grades of a part, one after the other, keep the split form, the coefficients of
+/// the squares, the principal part and its letters, and leave no residual term above it that a lead
+/// of the part divides. Of a part that a finish chooses they leave above its form the modulus term
+/// alone.
+pub fn graded_kills_leave<R: Ring>()
+    ensures grades { (a : R) → R.is_ring a → AllGradesAreGone (R.meaning a).scalars }
+    ensures modulus { (a : R) → R.is_ring a → OnlyModulusIsLeft (R.meaning a).scalars }
 {}

@@ -3,14 +3,13 @@
 ghost use Rattle.std.specs.Prelude.{◌≡◌, ◌≤◌, ◌==◌, ◌&&◌, not, if◌then◌else◌, Some, None};
 ghost use Rattle.std.specs.List.{list_all};
 ghost use Rattle.jet_poly.specs.Jets.{IsJet, polynomial_of};
-ghost use Rattle.coord_change.specs.Moves.{at as at_in};
-ghost use Rattle.move_law.specs.Moves.{is_there};
-ghost use Rattle.move_law.specs.Patterns.{three, pattern_of};
+ghost use Rattle.move_law.specs.Moves.{is_there as is_there_in};
+ghost use Rattle.move_law.specs.Patterns.{pattern_of};
 ghost use Rattle.rules_corank3.specs.Parts.{IsBase3};
 
-use jet_poly::{JetOf, coef};
+use crate::monomials::is_there;
+use jet_poly::JetOf;
 use kill_law::Part;
-use kill_leads::monomial;
 use normal_forms::Pattern;
 use ring_law::{Field, Ring};
 
@@ -23,28 +22,16 @@ static S1: [[u8; 3]; 2] = [[4, 0, 0], [3, 1, 0]];
 /// Those that a jet of part U has to lack for the pattern U1.
 static U1: [[u8; 3]; 1] = [[0, 0, 4]];
 
-/// The coefficient of `x^i * y^k * z^l`.
-fn at<R: Ring>(ring: &R, f: &JetOf<R>, i: u8, k: u8, l: u8) -> R::Elem
-    requires ring { R.is_ring ring.now }
-    requires jet { IsJet (R.meaning ring.now) f.now }
-    requires three_variables { 3 ≤ f.now.n }
-    requires at_most_8_variables { f.now.n ≤ 8 }
-    ensures elem { (R.meaning ring.now).is_elem result }
-    ensures value { let m = R.meaning ring.now in m.value result ≡ at_in f.now.n m.scalars (polynomial_of m f.now) (three i k l) }
-{
-    coef(ring, f, monomial([i, k, l]))
-}
-
 /// True where the coefficients at these monomials in x, y and z are all zero.
 fn lacks<R: Ring>(ring: &R, f: &JetOf<R>, monomials: &[[u8; 3]]) -> bool
     requires ring { R.is_ring ring.now }
     requires jet { IsJet (R.meaning ring.now) f.now }
     requires three_variables { 3 ≤ f.now.n }
     requires at_most_8_variables { f.now.n ≤ 8 }
-    ensures { let m = R.meaning ring.now in result ≡ list_all (λ e. not (is_there f.now.n m.scalars (polynomial_of m f.now) e)) monomials.now }
+    ensures { let m = R.meaning ring.now in result ≡ list_all (λ e. not (is_there_in f.now.n m.scalars (polynomial_of m f.now) e)) monomials.now }
 {
     for e in monomials {
-        if !ring.eq(at(ring, f, e[0], e[1], e[2]), ring.zero()) {
+        if is_there(ring, f, *e) {
             return false;
         }
     }
@@ -64,7 +51,7 @@ fn decided<R: Ring>(
     requires jet { IsJet (R.meaning ring.now) f.now }
     requires three_variables { 3 ≤ f.now.n }
     requires at_most_8_variables { f.now.n ≤ 8 }
-    ensures { let m = R.meaning ring.now in result ≡ (if (order == o) && list_all (λ e. not (is_there f.now.n m.scalars (polynomial_of m f.now) e)) monomials.now then Some pattern else None) }
+    ensures { let m = R.meaning ring.now in result ≡ (if (order == o) && list_all (λ e. not (is_there_in f.now.n m.scalars (polynomial_of m f.now) e)) monomials.now then Some pattern else None) }
 {
     if order == o && lacks(ring, f, monomials) {
         Some(pattern)
