@@ -1,3 +1,4 @@
+mod Chains
 mod Constants
 mod Fields
 mod LowTerms

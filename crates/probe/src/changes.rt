@@ -54,6 +54,7 @@ fn change_with<F: Field>(
     requires orders { All (λ p. p.order ≡ order) parts.now }
     ensures change { IfOk result (λ o. IfSome o (IsChange (F.meaning field.now))) }
     ensures n { IfOk result (λ o. IfSome o (λ c. c.n ≡ n)) }
+    ensures order { IfOk result (λ o. IfSome o (λ c. c.order ≡ order)) }
 {
     if have_no_constant(field, n, parts) {
         let change = from_parts(alloc, field, parts)?;
@@ -62,8 +63,8 @@ fn change_with<F: Field>(
     Ok(None)
 }
 
-// The change of coordinates whose parts the next words spell.
-fn change_of<F: Field<Elem = Ext<Frac>> + Drop>(
+/// The change of coordinates whose parts the next words spell.
+pub(crate) fn change_of<F: Field<Elem = Ext<Frac>> + Drop>(
     alloc: Global,
     over: &Over<F>,
     words: &mut Words,
@@ -73,6 +74,7 @@ fn change_of<F: Field<Elem = Ext<Frac>> + Drop>(
     requires order_at_least_1 { 1 ≤ over.now.order }
     ensures change { IfOk result (IsChange (F.meaning over.now.field)) }
     ensures n { IfOk result (λ c. c.n ≡ over.now.n) }
+    ensures order { IfOk result (λ c. c.order ≡ over.now.order) }
 {
     let parts = over.parts(alloc, words, over.n)?;
     match change_with(alloc, &over.field, over.n, over.order, &parts)? {

@@ -19,7 +19,7 @@ use small_frac::Rationals;
 use std::alloc::Global;
 
 /// Whether no term of the jet has a degree below 2.
-fn starts_at_two<R: Ring>(ring: &R, f: &JetOf<R>) -> bool
+pub(crate) fn starts_at_two<R: Ring>(ring: &R, f: &JetOf<R>) -> bool
     requires ring { R.is_ring ring.now }
     requires jet { IsJet (R.meaning ring.now) f.now }
     ensures low { result ≡ true → (let m = R.meaning ring.now in StartsAtIn f.now.n m.scalars.ops 2 (polynomial_of m f.now)) }

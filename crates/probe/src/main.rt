@@ -1,6 +1,7 @@
 //! Answers each line of standard input by one line: calculations of the crates below the program, in the texts of lines and reports.
 #![tactic(auto)]
 
+mod chain;
 mod changes;
 mod forms;
 mod germs;

@@ -11,7 +11,7 @@ ghost use Rattle.cert_text.specs.WellFormed.{IsJetOf};
 ghost use Rattle.probe.specs.Over.{IsOver};
 
 use crate::words::{Stop, Words, is};
-use crate::{changes, forms, jets, kills, rows, shapes, texts};
+use crate::{chain, changes, forms, jets, kills, rows, shapes, texts};
 use ext_algebra::{Algebra, AlgebraField, AlgebraRing, Ext, ExtField, ExtRing, TowerField, Triple};
 use jet_poly::{Jet, from_terms};
 use mono_exp::Exp;
@@ -198,6 +198,8 @@ fn answer_over<F: Field<Elem = Ext<Frac>> + Drop>(
         jets::calculate(alloc, command, over, words, out)
     } else if is(group, b"change") {
         changes::calculate(alloc, command, over, words, out)
+    } else if is(group, b"chain") {
+        chain::calculate(alloc, command, over, words, out)
     } else if is(group, b"kill") {
         kills::calculate(alloc, command, over, words, out)
     } else if is(group, b"row") {
