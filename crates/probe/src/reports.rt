@@ -1,5 +1,6 @@
 //! What is read of lines, and reports that are read, written again and checked. Where a report stands in one line, a bar stands for each newline.
 
+ghost use Rattle.std.specs.Prelude.{◌≡◌, length};
 ghost use Rattle.ring_law.specs.Fraction.{rational_meaning};
 ghost use Rattle.jet_poly.specs.Jets.{IsJet};
 
@@ -8,7 +9,7 @@ use cert_check::check;
 use cert_text::write_report;
 use line_germ::{Germ, Read, read_line};
 use line_io::MAX_LINE;
-use poly_text::{Name, What, put_name, put_number, put_polynomial};
+use poly_text::{Name, What, put_name, put_number, write_poly};
 use report_jet::lifted_jet;
 use report_law::{Finding, put_finding};
 use report_reader::{ReadError, read_report};
@@ -39,7 +40,8 @@ fn put_names(out: &mut Vec<u8>, names: &[Name]) -> Result<(), AllocError> {
 
 // Appends the names, the order and the polynomial of a germ.
 fn put_germ(alloc: Global, out: &mut Vec<u8>, germ: &Germ) -> Result<(), Stop>
-    requires { IsJet rational_meaning germ.now.jet }
+    requires jet { IsJet rational_meaning germ.now.jet }
+    requires one_name_a_variable { length germ.now.names ≡ germ.now.jet.n }
 {
     let names = germ.names.as_slice();
     out.extend_from_slice(b"germ ")?;
@@ -48,7 +50,8 @@ fn put_germ(alloc: Global, out: &mut Vec<u8>, germ: &Germ) -> Result<(), Stop>
     put_number(out, u64::from(germ.order))?;
     out.push(b' ')?;
     let f = lifted_jet(alloc, &germ.jet)?;
-    Ok(put_polynomial(alloc, out, names, &f)?)
+    let text = write_poly(alloc, &f, names)?;
+    Ok(out.extend_from_slice(text.as_slice())?)
 }
 
 // Appends a word, a column, and what stands there.
