@@ -1,21 +1,26 @@
 #!/usr/bin/env bash
 # classify.sh FILE [PROGRAM]: has the program classify each line of a file by itself. A line may stand after a comment line `# NAME` with its name, as
 # make_germs.sh makes them. Writes how many lines got that name, how many `range` (by phase) and how many other answers, with the first of these; the median,
-# the 95th percentile and the longest time of a line, less that of starting the program on no line; and the peak memory of the longest.
+# the 95th percentile and the longest processor time of a line, less that of starting the program on no line; and the peak memory of the longest. It is
+# processor time, so that other work on the machine counts little; a line of less than 10 milliseconds is measured as 32 copies of it.
 set -eu
 top="$(cd "$(dirname "${BASH_SOURCE[0]}")/.." && pwd)"
 program="${2:-$top/crates/germ/out/germ}"
 work="$(mktemp -d)"
 trap 'rm -rf "$work"' EXIT
-now() { echo "${EPOCHREALTIME/./}"; }
+TIMEFORMAT='%3U %3S'
+# The microseconds of processor time that the program takes for a file, to a millisecond.
+spent() {
+    local user system
+    read -r user system < <({ time "$program" classify <"$1" >"$work/report"; } 2>&1)
+    echo $((1000 * (10#${user/./} + 10#${system/./})))
+}
 
 # The time of a start, the least of twenty.
 base=1000000
 for _ in {1..20}; do
-    start="$(now)"
-    "$program" classify </dev/null >/dev/null
-    taken=$(($(now) - start))
-    if ((taken < base)); then base=$taken; fi
+    taken="$(spent /dev/null)"
+    if ((taken < base)); then base="$taken"; fi
 done
 
 wanted=""
@@ -25,10 +30,12 @@ while IFS= read -r line; do
         '' | '#'*) continue ;;
     esac
     printf '%s\n' "$line" >"$work/line"
-    start="$(now)"
-    "$program" classify <"$work/line" >"$work/report"
-    taken=$(($(now) - start - base))
+    taken=$(($(spent "$work/line") - base))
     answer="$(sed -n '2s/^answer //p' "$work/report")"
+    if ((taken < 10000)); then
+        for _ in {1..32}; do cat "$work/line"; done >"$work/copies"
+        taken=$((($(spent "$work/copies") - base) / 32))
+    fi
     printf '%s\t%s\t%s\t%s\n' "$((taken > 0 ? taken : 0))" "$wanted" "$answer" "$line"
     wanted=""
 done <"$1" >"$work/answers"
