@@ -1,3 +1,4 @@
 pub mod Parts
 pub mod Extends
 pub mod Finishes
+pub mod Finished

@@ -1,6 +1,6 @@
 //! Which monomials decide on the family of a finish.
 
-ghost use Rattle.std.specs.Prelude.{◌≡◌, ◌<◌, ◌≤◌, [], ◌∷◌, slice_set, length, map};
+ghost use Rattle.std.specs.Prelude.{◌≡◌, ◌<◌, ◌≤◌, [], ◌∷◌, slice_set, IfSome, length, map};
 ghost use Rattle.jet_law.specs.Terms.{poly_of};
 ghost use Rattle.jet_poly.specs.Jets.{IsJet};
 ghost use Rattle.coord_change.specs.Moves.{at as at_of};
@@ -219,7 +219,8 @@ pub fn least<R: Ring>(ring: &R, f: &JetOf<R>, i: u8) -> Option<u8>
     requires at_most_8_variables { f.now.n ≤ 8 }
     requires inside { i < f.now.n }
     requires order_at_most_16 { f.now.order ≤ 16 }
-    ensures { let m = R.meaning ring.now in let n = f.now.n in result ≡ least_of n m.scalars f.now.order i (poly_of n m.value f.now.terms) }
+    ensures value { let m = R.meaning ring.now in let n = f.now.n in result ≡ least_of n m.scalars f.now.order i (poly_of n m.value f.now.terms) }
+    ensures within { IfSome result (λ m. m ≤ f.now.order) }
 {
     for m in 2..f.order() + 1 {
         if has_power(ring, f, i, m) {

@@ -2,6 +2,7 @@
 #![tactic(auto)]
 
 mod extend;
+mod finish_base;
 mod finish_choice;
 mod finish_kills;
 mod finish_moves;
@@ -9,6 +10,7 @@ mod finish_state;
 mod pattern;
 
 pub use extend::extend2;
+pub use finish_base::{Finish, finish_still};
 pub use finish_choice::{Choice, at, choices, first_choice, least, power_at};
 pub use finish_kills::graded_kill;
 pub use finish_moves::{multiple, over, putting, variable};

@@ -13,16 +13,16 @@ loop-m-preserved g c =
     let n = c.args.f.now.n in
     not_here (λ m. is_there n m0.scalars (poly_of n m0.value c.args.f.now.terms) (power_exponents n c.args.i m)) c.loop-m.m c.loop-m.auto.m c.loop-m.invariant (sym c.has_power.ensures ∙ c.if-has_power.false)
 
-pub returns-then-has_power : goal.returns-then-has_power
-returns-then-has_power g c =
+pub returns-then-has_power-clause-value : goal.returns-then-has_power-clause-value
+returns-then-has_power-clause-value g c =
     let m0 = g.R.Ring.meaning c.args.ring.now in
     let n = c.args.f.now.n in
     let o = c.order-m-end.ensures in
     let t = c.loop-m-test.true in
     sym (found_least (λ m. is_there n m0.scalars (poly_of n m0.value c.args.f.now.terms) (power_exponents n c.args.i m)) c.loop-m.m c.args.f.now.order c.loop-m.auto.m (omega arith) c.loop-m.invariant (sym c.has_power.ensures ∙ c.if-has_power.true))
 
-pub returns : goal.returns
-returns g c =
+pub returns-clause-value : goal.returns-clause-value
+returns-clause-value g c =
     let m0 = g.R.Ring.meaning c.args.ring.now in
     let n = c.args.f.now.n in
     let o = c.order-m-end.ensures in

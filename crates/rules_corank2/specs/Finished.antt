@@ -1,0 +1,25 @@
+-- The finish of a base part as the program answers it.
+use Rattle.std.specs.Prelude.{◌≡◌, ℕ, Bool, true, false, IsTrue, Option}
+use Rattle.ring_theory.specs.Scalars.{Meaning}
+use Rattle.kill_law.specs.declared.part.Part.{Part}
+use Rattle.kill_law.specs.declared.part.Part.TheVariants as parts
+use Rattle.move_law.specs.Finish.{Finishing}
+use Rattle.normal_forms.specs.declared.family.Family.{Family}
+use Rattle.rules_corank2.specs.declared.finish_base.Finish as code
+use Rattle.rules_corank2.specs.Finishes.{IsUnderWay}
+
+-- the program answers this finish: its moves and its jet as it keeps them, and the family that the jet may be a form of
+pub record IsFinished {E V : Type 0} (m : Meaning E V) (n o : ℕ) (finish : Finishing n V × Option Family) (answer : code.Finish E) : Type 0 where
+  pub reached : IsUnderWay m n o finish.0 answer.reached
+  pub family : answer.family ≡ finish.1
+
+-- a part in two variables whose finish makes no move
+unfoldable pub is_still : Part → Bool
+is_still parts.D4 = true
+is_still parts.D = true
+is_still parts.X9 = true
+is_still parts.X = true
+is_still _ = false
+
+abbrev pub IsStill : Part → Type 0
+IsStill p = IsTrue (is_still p)
