@@ -32,6 +32,12 @@ const USAGE: &[u8] = b"usage: germ classify [K] | check | make START COUNT | tab
 const TABLE: &[u8] =
     b"A(m) u1^(m+1)\nD(m) u1^2*u2+u2^(m-1)\nE6 u1^3+u2^4\nE7 u1^3+u1*u2^3\nE8 u1^3+u2^5\nP8 cubic(u1,u2,u3)\nX9 quartic(u1,u2)\nJ10 u1^3+u1*u2^4+u2^6\nT(2,3,r) u1^3+u1^2*u2^2+u2^r\nT(2,4,r) u1^4+u1^2*u2^2+u2^r\nT(2,q,r) u1^2*u2^2+u1^q+u2^r\nT(p,q,r) u1*u2*u3+u1^p+u2^q+u3^r\nE12 u1^3+u2^7+u1*u2^5\nE13 u1^3+u1*u2^5+u2^8\nE14 u1^3+u2^8+u1*u2^6\nZ11 u1^3*u2+u2^5+u1*u2^4\nZ12 u1^3*u2+u1*u2^4+u1^2*u2^3\nZ13 u1^3*u2+u2^6+u1*u2^5\nW12 u1^4+u2^5+u1^2*u2^3\nW13 u1^4+u1*u2^4+u2^6\nQ10 u1^3+u2*u3^2+u2^4+u1*u2^3\nQ11 u1^3+u2*u3^2+u1*u2^3+u2^5\nQ12 u1^3+u2*u3^2+u2^5+u1*u2^4\nS11 u2^2*u3+u1*u3^2+u1^4+u1^3*u3\nS12 u2^2*u3+u1*u3^2+u1^3*u2+u1^5\nU12 u1^3+u2^3+u3^4+u1*u2*u3^2\n";
 
+// From five variables on the order limit is at most 12.
+const EIGHT: &[u8] = b"[a,b,c,d,e,f,g,h] a^2+b^2+c^2+d^2+e^2+f^2+g^2+h^13";
+
+const EIGHT_TEXT: &[u8] =
+    b"germ [a,b,c,d,e,f,g,h] a^2+b^2+c^2+d^2+e^2+f^2+g^2+h^13\nanswer limit\norder 12\nalgebra Q\ncorank 1\nchange\na = u2\nb = u3\nc = u4\nd = u5\ne = u6\nf = u7\ng = u8\nh = u1\ninverse\n0 0 0 0 0 0 0 1\n1 0 0 0 0 0 0 0\n0 1 0 0 0 0 0 0\n0 0 1 0 0 0 0 0\n0 0 0 1 0 0 0 0\n0 0 0 0 1 0 0 0\n0 0 0 0 0 1 0 0\n0 0 0 0 0 0 1 0\njet u2^2+u3^2+u4^2+u5^2+u6^2+u7^2+u8^2\nfunctional u1^13 1\nu1^13 1\nend\n";
+
 #[test]
 fn one_report_for_each_answered_line(rt: HostRuntime) -> Result<(), Fail> {
     let words = words_of(rt.alloc(), &["classify"])?;
@@ -60,16 +66,19 @@ fn the_order_limit_that_is_asked_for(rt: HostRuntime) -> Result<(), Fail> {
     let rows = [
         (
             "3",
+            b"x^4".as_slice(),
             b"germ x^4\nanswer limit\norder 3\nalgebra Q\ncorank 1\nchange\nx = u1\ninverse\n1\njet 0\nfunctional u1^4 1\nu1^4 1\nend\n".as_slice(),
         ),
         (
             "4",
+            b"x^4",
             b"germ x^4\nanswer named A3\norder 4\nalgebra Q\ncorank 1\nchange\nx = u1\ninverse\n1\nform u1^4\nunits 1\n1 1\nmodulus none\nmilnor 3\nmather 1\nu1^5 = 1/4*u1^2\nbasis 1 u1 u1^2\ntable 5\n1 = 1 0 0 : 0\nu1 = 0 1 0 : 0\nu1^2 = 0 0 1 : 0\nu1^3 = 0 0 0 : 1/4\nu1^4 = 0 0 0 : 1/4*u1\nend\n",
         ),
+        ("16", EIGHT, EIGHT_TEXT),
     ];
-    for (limit, text) in rows {
+    for (limit, line, text) in rows {
         let words = words_of(rt.alloc(), &["classify", limit])?;
-        let mut source = MemSource::new(rt.alloc(), b"x^4", ROOM, &[]).map_err(|_| MEMORY)?;
+        let mut source = MemSource::new(rt.alloc(), line, ROOM, &[]).map_err(|_| MEMORY)?;
         let mut sink = MemSink::new(rt.alloc(), ROOM, ROOM, &[]).map_err(|_| MEMORY)?;
         let status = run(rt.alloc(), &words, &mut source, &mut sink);
         assert_eq!(rt; status, Status::Done);
