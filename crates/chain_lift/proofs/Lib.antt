@@ -1,0 +1,4 @@
+mod LiftedChains
+mod LiftedElements
+mod LiftedMoves
+mod OpenChains
