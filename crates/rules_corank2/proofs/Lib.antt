@@ -2,6 +2,7 @@ mod Divisors
 pub mod MadeMoves
 mod Pairs
 pub mod FinishChoices
+pub mod FinishChosen
 pub mod FinishHeights
 pub mod FinishKills
 pub mod FinishMoves

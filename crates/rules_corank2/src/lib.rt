@@ -4,6 +4,7 @@
 mod extend;
 mod finish_base;
 mod finish_choice;
+mod finish_graded;
 mod finish_kills;
 mod finish_moves;
 mod finish_state;
@@ -12,6 +13,7 @@ mod pattern;
 pub use extend::extend2;
 pub use finish_base::{Finish, finish_still};
 pub use finish_choice::{Choice, at, choices, first_choice, least, power_at};
+pub use finish_graded::finish_chosen;
 pub use finish_kills::graded_kill;
 pub use finish_moves::{multiple, over, putting, variable};
 pub use finish_state::{Finishing, moved};
