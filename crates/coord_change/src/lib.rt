@@ -26,6 +26,6 @@ pub use forms::linear;
 pub use inversion::invert_to;
 pub use matrix::{matrix_product, unit_matrix};
 pub use parts::{from_parts, linear_part};
-pub use pullback::carry;
+pub use pullback::{carried_jet, carry};
 pub use steps::Steps;
 pub use unit::{identity, monomial};

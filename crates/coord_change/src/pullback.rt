@@ -50,7 +50,7 @@ pub fn carry<R: Ring>(
 /// f carried by the move of the change c up to degree k, as the one list of terms that it is.
 ///
 /// Errors: `Range` only where a number that this substitution forms has height 2^120 or more.
-pub(crate) fn carried_jet<R: Ring>(
+pub fn carried_jet<R: Ring>(
     alloc: Global,
     ring: &R,
     c: &ChangeOf<R>,
