@@ -5,3 +5,7 @@ mod KernelLemmas
 mod CubicJets
 mod Multiples
 mod RowLemmas
+mod ZeroCubics
+mod NodeAxes
+mod TriangleWays
+pub mod OneChoice

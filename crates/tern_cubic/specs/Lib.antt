@@ -1,3 +1,4 @@
 pub mod Kernels
 pub mod Rows
 pub mod Matrices
+pub mod OtherShapes

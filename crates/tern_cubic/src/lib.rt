@@ -7,6 +7,7 @@
 mod cubic;
 mod hessian;
 mod kernel;
+pub mod laws;
 mod matrix;
 mod rows;
 mod steps;
