@@ -1,5 +1,5 @@
 -- The axis of a node does not depend on which functional spans those that are 0 on the products.
-use Rattle.std.proofs.Common.{◌≡◌, ◌≢◌, ℕ, zero, suc, ◌<◌, Bool, true, false, if◌then◌else◌, List, [], ◌∷◌, refl, sym, ◌∙◌, ap, subst, arith}
+use Rattle.std.proofs.Common.{◌≡◌, ◌≢◌, ℕ, zero, suc, ◌<◌, Bool, true, false, if◌then◌else◌, refl, sym, ◌∙◌, ap, subst, arith}
 use Rattle.std.specs.Prelude.{not}
 use Rattle.ring_theory.specs.Rational.{Rational, rational_mul, rational_ops}
 use Rattle.ring_theory.specs.Height.{rational_scalars, is_zero_rational}
@@ -9,7 +9,7 @@ use Rattle.poly_law.specs.Polynomials.{Polynomial}
 use Rattle.mono_exp.specs.Exponents.{monomials_of}
 use Rattle.move_law.specs.Moves.{over}
 use Rattle.ternary_law.specs.Cubics.{place_in, raised, value_at}
-use Rattle.ternary_law.specs.Steps.{axis_matrix, last_place}
+use Rattle.ternary_law.specs.Steps.{axis_matrix}
 use Rattle.ternary_law.specs.Rules.{cube_of, node_place, node_entry, node_scale, node_point}
 use Rattle.ternary_law.proofs.Scaling.{product_other, quotient_same, last_same, axis_same, at_last, last_inside}
 

@@ -8,25 +8,24 @@ use Rattle.ring_theory.specs.Scalars.{Scalars}
 use Rattle.ring_theory.proofs.RationalLaws.{rational_laws, rational_field}
 use Rattle.ring_theory.proofs.RingReify.{by_ring, reify}
 use Rattle.poly_law.specs.Polynomials.{Polynomial}
-use Rattle.lin_row.specs.Lines.{EachOf}
 use Rattle.ext_algebra.specs.Algebra.{Value}
-use Rattle.move_law.specs.Binary.{Begun, unknown, past, found}
+use Rattle.move_law.specs.Binary.{Begun, unknown}
 use Rattle.move_law.specs.Shapes.{cubic_shape}
 use Rattle.move_law.specs.Work.{Work}
 use Rattle.ternary_law.specs.Linear.{HasNoKernel, SpansKernel, HasKernelPlane}
 use Rattle.ternary_law.specs.Matrices.{Matrix, moved}
 use Rattle.ternary_law.specs.Cubics.{cubic_coefficients, partial_rows, product_rows, SpansCommonLines}
-use Rattle.ternary_law.specs.Pairs.{Pair, IsPair, pair_algebra}
+use Rattle.ternary_law.specs.Pairs.{Pair, pair_algebra}
 use Rattle.ternary_law.specs.Steps.{axis_matrix, plane_matrix, last_place, first_place}
 use Rattle.ternary_law.specs.Routes.{Step, fixed, Route, IsPassable, Reaches, pair_of, Arrives}
-use Rattle.ternary_law.specs.Rules.{cube_steps, cone_section, binary_part, line_step, repeated_steps, concurrent_route, node_scale, node_point, node_route, cusp_steps, all_cusp_steps, secant_route, all_tangent_steps}
+use Rattle.ternary_law.specs.Rules.{cube_steps, cone_section, binary_part, line_step, repeated_steps, concurrent_route, node_point, node_route, cusp_steps, all_cusp_steps, secant_route, all_tangent_steps}
 use Rattle.ternary_law.specs.Triangle.{Points, algebra_of, plane_section, is_distinct}
-use Rattle.ternary_law.specs.Shapes.{Shape, no_form, repeated, concurrent, smooth, node, cusp, conic_secant, conic_tangent, triangle, other, form, hessian_form, IsZeroForm, IsCube, IsCone, IsOfRank, IsNode, IsCusp, IsConicSecant, IsConicTangent, IsTriangle, IsTriangleMove, ByRule, is_zero, is_cube, is_repeated, is_concurrent, is_smooth, is_node, is_cusp, is_conic_secant, is_conic_tangent, is_triangle, HasShape, by_none, x3, y3, xyz, xz2, yz2, y2z}
+use Rattle.ternary_law.specs.Shapes.{Shape, no_form, repeated, concurrent, smooth, node, cusp, conic_secant, conic_tangent, triangle, other, form, hessian_form, IsCube, IsCone, IsOfRank, IsNode, IsCusp, IsConicSecant, IsConicTangent, IsTriangle, IsTriangleMove, ByRule, is_zero, is_cube, is_repeated, is_concurrent, is_smooth, is_node, is_cusp, is_conic_secant, is_conic_tangent, is_triangle, HasShape, by_none, x3, y3, xyz, xz2, yz2, y2z}
 use Rattle.ternary_law.specs.Begin.{Begins, by_shape, begun_of}
 use Rattle.ternary_law.proofs.Ranks.{kernel_multiple, not_trivial, no_plane, rank_unique}
 use Rattle.ternary_law.proofs.Roots.{pair_unique}
 use Rattle.ternary_law.proofs.Scaling.{is_other, is_none, axis_of_kernel, plane_of_lines, at_last}
-use Rattle.tern_cubic.specs.OtherShapes.{IsBlocked, Misses, IsDeadEnd, no_first, no_pair, by_pair, HasNoMove, FailsRule, cube_fails, repeated_fails, concurrent_fails, no_rank, no_functional, node_fails, cusp_fails, hessian_plane, no_line, secant_fails, tangent_fails, triangle_fails}
+use Rattle.tern_cubic.specs.OtherShapes.{IsBlocked, Misses, IsDeadEnd, no_first, no_pair, by_pair, FailsRule, cube_fails, repeated_fails, concurrent_fails, no_rank, no_functional, node_fails, cusp_fails, hessian_plane, no_line, secant_fails, tangent_fails, triangle_fails}
 use Rattle.tern_cubic.proofs.ZeroCubics.{zero_plane}
 use Rattle.tern_cubic.proofs.NodeAxes.{scale_other, same_axis}
 use Rattle.tern_cubic.proofs.TriangleWays.{no_triangle_move}

@@ -9,7 +9,7 @@ use Rattle.poly_law.specs.Polynomials.{Polynomial}
 use Rattle.ext_algebra.specs.Algebra.{Value}
 use Rattle.ternary_law.specs.Matrices.{Matrix}
 use Rattle.ternary_law.specs.Pairs.{IsPair}
-use Rattle.ternary_law.specs.Triangle.{Points, at_corner, at_rational, cyclic, in_tower, IsWay, algebra_of, plane_section, slant, quotient_by_y, quotient_by}
+use Rattle.ternary_law.specs.Triangle.{Points, at_corner, at_rational, cyclic, in_tower, IsWay, algebra_of, plane_section, quotient_by_y, quotient_by}
 use Rattle.ternary_law.specs.Shapes.{IsTriangleMove}
 use Rattle.ternary_law.proofs.Roots.{at_most_antisym, pair_unique, neg_num, restored}
 use Rattle.ternary_law.proofs.Scaling.{product_other, is_other, is_none}

@@ -15,7 +15,7 @@ use Rattle.ternary_law.specs.Pairs.{Pair, IsPair, pair_algebra}
 use Rattle.ternary_law.specs.Routes.{Step, Route, IsPassable, Reaches, pair_of, Arrives}
 use Rattle.ternary_law.specs.Rules.{cube_steps, cone_section, repeated_steps, concurrent_route, node_route, all_cusp_steps, secant_route, all_tangent_steps}
 use Rattle.ternary_law.specs.Triangle.{Points, IsWay, algebra_of, plane_section, slant, is_distinct}
-use Rattle.ternary_law.specs.Shapes.{Shape, other, form, hessian_form, IsCube, IsCone, IsOfRank, IsNode, IsCusp, IsConicSecant, IsConicTangent, IsTriangle, IsTriangleMove, HasShape, x3, y3, xyz, xz2, yz2, y2z}
+use Rattle.ternary_law.specs.Shapes.{other, form, hessian_form, IsCube, IsCone, IsOfRank, IsNode, IsCusp, IsConicSecant, IsConicTangent, IsTriangle, IsTriangleMove, HasShape, x3, y3, xyz, xz2, yz2, y2z}
 use Rattle.ternary_law.specs.Begin.{Begins}
 
 -- the rational numbers
