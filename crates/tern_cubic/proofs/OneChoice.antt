@@ -1,5 +1,5 @@
 -- A rule that fails by one choice of its vector, its line or its pair of roots fails by each, and the rules exclude each other: the shape is another one.
-use Rattle.std.proofs.Common.{◌≡◌, ◌≢◌, ℕ, zero, suc, ◌<◌, Bool, true, false, if◌then◌else◌, List, [], ◌∷◌, refl, sym, ◌∙◌, ap, subst, arith}
+use Rattle.std.proofs.Common.{◌≡◌, ◌≢◌, ℕ, zero, suc, ◌<◌, ◌↔◌, Bool, true, false, if◌then◌else◌, List, [], ◌∷◌, refl, sym, ◌∙◌, ap, subst, arith}
 use Rattle.std.specs.Prelude.{not}
 use Rattle.ring_theory.specs.Ring.{RingOps, IsCommRing}
 use Rattle.ring_theory.specs.Rational.{Rational, rational_mul, rational_ops}
@@ -23,6 +23,7 @@ use Rattle.ternary_law.specs.Triangle.{Points, algebra_of, plane_section, is_dis
 use Rattle.ternary_law.specs.Shapes.{Shape, no_form, repeated, concurrent, smooth, node, cusp, conic_secant, conic_tangent, triangle, other, form, hessian_form, IsCube, IsCone, IsOfRank, IsNode, IsCusp, IsConicSecant, IsConicTangent, IsTriangle, IsTriangleMove, ByRule, is_zero, is_cube, is_repeated, is_concurrent, is_smooth, is_node, is_cusp, is_conic_secant, is_conic_tangent, is_triangle, HasShape, by_none, x3, y3, xyz, xz2, yz2, y2z}
 use Rattle.ternary_law.specs.Begin.{Begins, by_shape, begun_of}
 use Rattle.ternary_law.proofs.Ranks.{kernel_multiple, not_trivial, no_plane, rank_unique}
+use Rattle.ternary_law.proofs.OneShape.{one_shape}
 use Rattle.ternary_law.proofs.Roots.{pair_unique}
 use Rattle.ternary_law.proofs.Scaling.{is_other, is_none, axis_of_kernel, plane_of_lines, at_last}
 use Rattle.tern_cubic.specs.OtherShapes.{IsBlocked, Misses, IsDeadEnd, no_first, no_pair, by_pair, FailsRule, cube_fails, repeated_fails, concurrent_fails, no_rank, no_functional, node_fails, cusp_fails, hessian_plane, no_line, secant_fails, tangent_fails, triangle_fails}
@@ -295,8 +296,9 @@ module _ (n : ℕ) where
   found_by_other : (g : Polynomial n Rational) (b : Begun n) → Begins n g b → b ≡ unknown → HasShape (cubic_coefficients q n g) other
   found_by_other g _ (by_shape {t = t} h) e = subst (HasShape (cubic_coefficients q n g)) (only_other t e) h
 
-  pub unknown_by_other : (g : Polynomial n Rational) → HasShape (cubic_coefficients q n g) other → Begins n g unknown
-  unknown_by_other g h = by_shape h
+  unknown_by_other : (g : Polynomial n Rational) (b : Begun n) → Begins n g b → HasShape (cubic_coefficients q n g) other → b ≡ unknown
+  unknown_by_other g _ (by_shape {t = t} h) k = ap (begun_of n) (one_shape (cubic_coefficients q n g) t other h k)
 
-  pub other_by_unknown : (g : Polynomial n Rational) → Begins n g unknown → HasShape (cubic_coefficients q n g) other
-  other_by_unknown g h = found_by_other g unknown h refl
+  -- what the linear move finds is unknown exactly where the shape is another one
+  pub others_are_unknown : (g : Polynomial n Rational) (b : Begun n) → Begins n g b → ((b ≡ unknown) ↔ HasShape (cubic_coefficients q n g) other)
+  others_are_unknown g b h = (found_by_other g b h, unknown_by_other g b h)

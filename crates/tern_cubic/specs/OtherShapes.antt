@@ -6,7 +6,7 @@ use Rattle.ring_theory.specs.Scalars.{Scalars}
 use Rattle.poly_law.specs.Polynomials.{Polynomial}
 use Rattle.lin_row.specs.Lines.{EachOf}
 use Rattle.ext_algebra.specs.Algebra.{Value}
-use Rattle.move_law.specs.Binary.{unknown}
+use Rattle.move_law.specs.Binary.{Begun, unknown}
 use Rattle.move_law.specs.Shapes.{cubic_shape}
 use Rattle.ternary_law.specs.Linear.{SpansKernel, HasKernelPlane, HasNoKernel}
 use Rattle.ternary_law.specs.Matrices.{Matrix}
@@ -30,14 +30,14 @@ IsBlocked f steps = (inverse : Matrix Rational) → IsPassable f steps inverse �
 abbrev pub Misses : Polynomial 3 Rational → List (Step Rational) → List (List ℕ) → Type 0
 Misses f steps monomials = (inverse : Matrix Rational) → Reaches f steps monomials inverse → ⊥
 
--- a route does not arrive: a divisor of its first step is zero; the pair rule has no case; or by the case that it has the route does not end at these monomials
+-- a route does not arrive: a divisor of its first step is zero; the pair rule has no case; or by its case the route does not end at these monomials
 pub data IsDeadEnd (f : Polynomial 3 Rational) (route : Route) (monomials : List (List ℕ)) : Type 0 where
   no_first : (EachOf (λ d. d ≢ q.ops.zero) (route.first.divisors f) → ⊥) → IsDeadEnd f route monomials
   no_pair : ((p : Pair) → IsPair (pair_of f route) p → ⊥) → IsDeadEnd f route monomials
   by_pair : (p : Pair) → IsPair (pair_of f route) p
       → ((inverse : Matrix (Value (pair_algebra (pair_of f route) p))) → Arrives f route p monomials inverse → ⊥) → IsDeadEnd f route monomials
 
--- a triangle has no move: no slant serves; its section has no way to three points; or by the way that it has the gradients have no inverse, or it fails the test
+-- a triangle has no move: no slant serves; its section has no way to three points; or by its way the gradients have no inverse, or it fails the test
 pub data HasNoMove (f : Polynomial 3 Rational) : Type 0 where
   no_slant : slant f ≡ None → HasNoMove f
   no_way : (m : ℕ) → slant f ≡ Some m → ((way : Points) → IsWay (plane_section f m) way → ⊥) → HasNoMove f
@@ -65,6 +65,7 @@ pub data FailsRule (c : List Rational) : Type 0 where
 abbrev pub FailingIsOther : Type 0
 FailingIsOther = (c : List Rational) → FailsRule c → HasShape c other
 
--- the linear move of f finds neither a part nor a pattern exactly where the shape of its cubic terms is another one
+-- what the linear move of f finds is neither a part nor a pattern exactly where the shape of the cubic terms is another one
 abbrev pub OthersAreUnknown : Type 0
-OthersAreUnknown = (n : ℕ) (f : Polynomial n Rational) → Begins n f unknown ↔ HasShape (cubic_coefficients rational_scalars n f) other
+OthersAreUnknown =
+    (n : ℕ) (f : Polynomial n Rational) (b : Begun n) → Begins n f b → ((b ≡ unknown) ↔ HasShape (cubic_coefficients rational_scalars n f) other)

@@ -8,8 +8,8 @@ pub fn failing_is_other()
     ensures { FailingIsOther }
 {}
 
-/// In a jet the linear move finds neither a part nor a pattern exactly where the shape of the cubic
-/// terms is another one.
+/// What the linear move of a jet finds is neither a part nor a pattern exactly where the shape of
+/// the cubic terms is another one.
 pub fn others_are_unknown()
     ensures { OthersAreUnknown }
 {}
