@@ -1,3 +1,7 @@
+mod ZeroCubics
+mod NodeAxes
+mod TriangleWays
+pub mod OneChoice
 mod Hessians
 pub mod MatrixRows
 mod Multiplication
@@ -5,7 +9,3 @@ mod KernelLemmas
 mod CubicJets
 mod Multiples
 mod RowLemmas
-mod ZeroCubics
-mod NodeAxes
-mod TriangleWays
-pub mod OneChoice

@@ -1,4 +1,4 @@
+pub mod OtherShapes
 pub mod Kernels
 pub mod Rows
 pub mod Matrices
-pub mod OtherShapes

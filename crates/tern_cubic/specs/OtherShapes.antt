@@ -26,7 +26,7 @@ q = rational_scalars
 abbrev pub IsBlocked : Polynomial 3 Rational → List (Step Rational) → Type 0
 IsBlocked f steps = (inverse : Matrix Rational) → IsPassable f steps inverse → ⊥
 
--- or the cubic that they reach has other monomials
+-- they are blocked, or the cubic that they reach has not exactly these monomials
 abbrev pub Misses : Polynomial 3 Rational → List (Step Rational) → List (List ℕ) → Type 0
 Misses f steps monomials = (inverse : Matrix Rational) → Reaches f steps monomials inverse → ⊥
 
