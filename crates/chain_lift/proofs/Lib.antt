@@ -1,4 +1,4 @@
 mod LiftedChains
-mod LiftedElements
+pub mod LiftedElements
 mod LiftedMoves
 mod OpenChains

@@ -8,3 +8,5 @@ pub mod OwnSteps
 pub mod KillLeads
 pub mod LeftMonomials
 pub mod GradedKills
+pub mod LiftedStates
+pub mod CutStates

@@ -1,7 +1,8 @@
-//! Laws of carried jets, of the split move and of the base kill, each the contract of a function
-//! that does nothing.
+//! Laws of carried jets, of the split move and of the base kill, and of the plan's states, each the
+//! contract of a function that does nothing.
 
 ghost use Rattle.kept_law.specs.KeptParts.{AllGradesAreGone, AllKillsKeep, AllSplitsKeep, ChoicesLeaveModulus, GradesAreKilled, JetsLow, KillsLeaveNoLead, KillsLeaveOthers, LettersAgree, LettersStay, LowAgrees, LowStays, OnlyModulusIsLeft, SplitStays, SquaresStay, TailLeavesPowers};
+ghost use Rattle.kept_law.specs.PlanStates.{CutPlan};
 
 use ring_law::Ring;
 
@@ -91,4 +92,11 @@ pub fn modulus_is_left()
 pub fn graded_kills_leave<R: Ring>()
     ensures grades { (a : R) → R.is_ring a → AllGradesAreGone (R.meaning a).scalars }
     ensures modulus { (a : R) → R.is_ring a → OnlyModulusIsLeft (R.meaning a).scalars }
+{}
+
+/// The state of the plan at order o + 1, cut at degree o, begins with its state at order o: its moves
+/// with the moves there, and its jets, each cut at degree o, with the jets there. Where order o + 1
+/// finds a part over an algebra, these are the lifted moves and the lifted jets.
+pub fn cut_plan()
+    ensures { CutPlan }
 {}
