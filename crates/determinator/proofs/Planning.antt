@@ -1,7 +1,8 @@
 -- What a run from the first step says of the plan.
-use Rattle.std.proofs.Common.{◌≡◌, ℕ, false, Result, Ok, Err, IfOk, inr, List, sym, subst}
+use Rattle.std.proofs.Common.{◌≡◌, ℕ, false, Result, IfOk, inr, List, sym, subst}
 use Rattle.ring_theory.specs.Rational.{Rational}
 use Rattle.ring_law.specs.declared.fraction.Frac.{Frac}
+use Rattle.ring_law.specs.declared.fraction.NoMemory.{NoMemory}
 use Rattle.poly_law.specs.Polynomials.{Polynomial}
 use Rattle.jet_poly.specs.JetTerms.{JetTerms}
 use Rattle.poly_text.specs.declared.name.Name.{Name}
@@ -10,7 +11,7 @@ use Rattle.cert_text.specs.declared.report.Phase.{Phase}
 use Rattle.plan_law.specs.Plan.{corank_of_germ, started, IsPhaseHigh}
 use Rattle.plan_law.specs.Run.{Runs, IsHighFrom}
 use Rattle.planned_law.specs.Planned.{is_unbuilt}
-use Rattle.determinator.specs.Answered.{IsPlannedAnswer, IsRangeOf, by_outcome, in_range}
+use Rattle.determinator.specs.Answered.{IsPlannedAnswer, ArePlanned, answer_of_stop, by_outcome, in_range}
 use Rattle.determinator.specs.Places.{StopBy}
 use Rattle.determinator.specs.Reports.{AreNames}
 use Rattle.determinator.specs.Starts.{IsJetOfGerm}
@@ -34,9 +35,7 @@ module _ (names : List Name) (n last : ℕ) (g : Polynomial n Rational) (c : ℕ
   running_of are step h = record { n = n; names_are = are; germ = g; start = started n g; ahead = ahead_of step h }
 
 -- the answer to a stop
-pub planned_stop : (names : List Name) (f : JetTerms Frac) {E : Type 0} (r : Result Answer E) (s : Stop) → IfOk r (IsRangeOf s)
-    → StopBy (λ p. (g : Polynomial f.n Rational) → IsJetOfGerm f g → IsPhaseHigh f.n g f.order p) s
-    → IfOk r (λ answer. (g : Polynomial f.n Rational) → IsJetOfGerm f g → IsPlannedAnswer names f.n f.order g answer)
-planned_stop names f (Ok a) (stops.Range p) e h = λ g j. subst (IsPlannedAnswer names f.n f.order g) (sym e) (in_range h.0 (h.1 g j))
-planned_stop names f (Ok a) stops.NoMemory e h = absurd e
-planned_stop names f (Err x) s e h = tt
+pub planned_stop : (names : List Name) (f : JetTerms Frac) (r : Result Answer NoMemory) (s : Stop) → r ≡ answer_of_stop s
+    → StopBy (λ p. (g : Polynomial f.n Rational) → IsJetOfGerm f g → IsPhaseHigh f.n g f.order p) s → IfOk r (ArePlanned names f)
+planned_stop names f r (stops.Range p) e h = subst (λ (z : Result Answer NoMemory). IfOk z (ArePlanned names f)) (sym e) (λ g j. in_range h.0 (h.1 g j))
+planned_stop names f r stops.NoMemory e h = subst (λ (z : Result Answer NoMemory). IfOk z (ArePlanned names f)) (sym e) tt

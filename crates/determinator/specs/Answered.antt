@@ -1,7 +1,8 @@
 -- What is answered for a critical germ.
-use Rattle.std.specs.Prelude.{◌≡◌, ℕ, true, false, List}
+use Rattle.std.specs.Prelude.{◌≡◌, ℕ, true, false, Result, Ok, Err, List}
 use Rattle.ring_theory.specs.Rational.{Rational}
 use Rattle.ring_law.specs.declared.fraction.Frac.{Frac}
+use Rattle.ring_law.specs.declared.fraction.NoMemory.{NoMemory}
 use Rattle.poly_law.specs.Polynomials.{Polynomial}
 use Rattle.jet_poly.specs.JetTerms.{JetTerms}
 use Rattle.poly_text.specs.declared.name.Name.{Name}
@@ -17,10 +18,10 @@ use Rattle.determinator.specs.Starts.{IsJetOfGerm}
 use Rattle.determinator.specs.declared.stop.Stop.{Stop}
 use Rattle.determinator.specs.declared.stop.Stop.TheVariants as stops
 
--- the answer is `range` in the phase of the stop
-abbrev pub IsRangeOf : Stop → Answer → Type 0
-IsRangeOf (stops.Range p) a = a ≡ answers.Range p
-IsRangeOf stops.NoMemory a = ⊥
+-- the answer to a stop: `range` in its phase, or want of memory
+abbrev pub answer_of_stop : Stop → Result Answer NoMemory
+answer_of_stop (stops.Range p) = Ok (answers.Range p)
+answer_of_stop stops.NoMemory = Err (record {})
 
 -- the plan's outcome; `range` in a phase that forms a number of height at least 2^120; or `unbuilt` in corank 2 and 3
 pub data IsPlannedAnswer (names : List Name) (n last : ℕ) (germ : Polynomial n Rational) : Answer → Type 0 where

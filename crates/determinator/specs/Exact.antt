@@ -14,18 +14,18 @@ use Rattle.determinator.specs.Lines.{IsAnswer}
 use Rattle.poly_text.specs.declared.name.Name.{Name}
 use Rattle.poly_text.specs.declared.what.What.{What}
 use Rattle.line_germ.specs.Reads.{IsSyntaxAt, IsLiteralAt, IsLinearIn}
-use Rattle.germ_law.specs.Germ.{IsCritical}
+use Rattle.germ_law.specs.Germ.{line_limit, IsCritical}
 use Rattle.std.specs.Prelude.{◌≡◌, ◌↔◌, ◌⊎◌, false, ℕ, ◌<◌, ◌≤◌, List, length}
 
 -- the report that answers a line is the too-long one exactly where the line has more than 65,536 bytes, with their number
 abbrev pub IsTooLongExactly : Type 0
-IsTooLongExactly = (limit : ℕ) (line : List ℕ) (r : Report) → IsAnswer limit line r → (n : ℕ) → (r ≡ reports.Long n) ↔ ((65536 < length line) × (n ≡ length line))
+IsTooLongExactly = (limit : ℕ) (line : List ℕ) (r : Report) → IsAnswer limit line r → (n : ℕ) → (r ≡ reports.Long n) ↔ ((line_limit < length line) × (n ≡ length line))
 
 -- a line of at most 65,536 bytes is answered `syntax` with this column and word exactly where the grammar refuses it so
 abbrev pub IsSyntaxExactly : Type 0
 IsSyntaxExactly =
     (limit : ℕ) (line : List ℕ) (r : Report) → IsAnswer limit line r → (column : ℕ) (what : What)
-    → (r ≡ reports.Line line (answers.Syntax column what)) ↔ ((length line ≤ 65536) × IsSyntaxAt line column what)
+    → (r ≡ reports.Line line (answers.Syntax column what)) ↔ ((length line ≤ line_limit) × IsSyntaxAt line column what)
 
 -- the report is `literal`, at a column where the first number of the line that is too large begins
 pub record IsLiteralAnswer (line : List ℕ) (r : Report) : Type 0 where
@@ -36,13 +36,13 @@ pub record IsLiteralAnswer (line : List ℕ) (r : Report) : Type 0 where
 -- a line of at most 65,536 bytes is answered `literal` exactly where it is in the grammar and has a number that is too large
 abbrev pub IsLiteralExactly : Type 0
 IsLiteralExactly =
-    (limit : ℕ) (line : List ℕ) (r : Report) → IsAnswer limit line r → IsLiteralAnswer line r ↔ ((length line ≤ 65536) × ((column : ℕ) × IsLiteralAt line column))
+    (limit : ℕ) (line : List ℕ) (r : Report) → IsAnswer limit line r → IsLiteralAnswer line r ↔ ((length line ≤ line_limit) × ((column : ℕ) × IsLiteralAt line column))
 
 -- a variable is answered as not critical only where its linear coefficient is the first that is not 0; and such a line is answered so, or
 -- `range` in the phase of reading
 pub record IsNotCriticalExactly : Type 0 where
   pub only : (limit : ℕ) (line : List ℕ) (r : Report) → IsAnswer limit line r → (variable : Name) → r ≡ reports.Line line (answers.NotCritical variable) → IsLinearIn line variable
-  pub answered : (limit : ℕ) (line : List ℕ) (r : Report) → IsAnswer limit line r → (variable : Name) → length line ≤ 65536 → IsLinearIn line variable
+  pub answered : (limit : ℕ) (line : List ℕ) (r : Report) → IsAnswer limit line r → (variable : Name) → length line ≤ line_limit → IsLinearIn line variable
       → (r ≡ reports.Line line (answers.NotCritical variable)) ⊎ (r ≡ reports.Line line (answers.Range phases.Line))
 
 -- a line is answered `unbuilt` only where it is critical of corank 2 or 3; and such a line is answered so, or `range`

@@ -2,6 +2,7 @@
 
 ghost use Rattle.std.specs.List.{list_all};
 ghost use Rattle.std.specs.Prelude.{◌≡◌, ◌≤◌, IfOk, IsTrue, ◌&&◌, not, ◌==◌, nat_lt, length};
+ghost use Rattle.germ_law.specs.Germ.{line_limit};
 ghost use Rattle.report_law.specs.Right.{IsRight};
 ghost use Rattle.planned_law.specs.Planned.{IsUnbuilt, IsPlanned};
 ghost use Rattle.determinator.specs.Lines.{IsGood};
@@ -16,7 +17,7 @@ use std::alloc::{AllocError, Global};
 
 // The answer to a line that is not too long.
 fn answer_to(alloc: Global, line: &[u8], limit: u8) -> Result<Answer, NoMemory>
-    requires short { length line.now ≤ 65536 }
+    requires short { length line.now ≤ line_limit }
     requires at_least_3 { 3 ≤ limit }
     requires at_most_16 { limit ≤ 16 }
     ensures { IfOk result (IsGood line.now limit) }
