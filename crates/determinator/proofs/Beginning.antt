@@ -1,5 +1,5 @@
 -- The first step of the run.
-use Rattle.std.proofs.Common.{◌≡◌, ◌≢◌, ℕ, zero, suc, ◌+◌, ◌<◌, ◌≤◌, ◌⊎◌, Bool, true, false, cond, ◌||◌, nat_le, eqb, eqb-true, eq-eqb, ne_eqb, inl, inr, List, [], ◌∷◌, map, refl, sym, ◌∙◌, ap, ap₂, subst, true≢false, arith}
+use Rattle.std.proofs.Common.{◌≡◌, ◌≢◌, ℕ, zero, suc, ◌+◌, ◌<◌, ◌≤◌, ◌⊎◌, Bool, true, false, cond, ◌||◌, nat_le, eqb, eqb-true, eq-eqb, ne_eqb, le-leb, inl, inr, List, [], ◌∷◌, map, refl, sym, ◌∙◌, ap, ap₂, subst, true≢false, arith}
 use Rattle.std.specs.Prelude.{◌-◌}
 use Rattle.std.specs.List.{AllByRecursion}
 use Rattle.ring_theory.specs.Rational.{Rational}
@@ -43,7 +43,8 @@ use Rattle.plan_law.specs.Pieces.{HasHigh}
 use Rattle.plan_law.specs.Plan.{IsPhaseHigh, corank_of_germ, started, first_move, first_jet}
 use Rattle.plan_law.specs.Run as run
 use Rattle.plan_law.specs.Run.{IsHighFrom, in_end, ends, tests, searching, brought, carried_by, composing_pieces}
-use Rattle.determinator.specs.Carried.{IsWithoutResidual}
+use Rattle.report_law.proofs.Splitting.{and_both}
+use Rattle.determinator.specs.Carried.{IsPastList}
 use Rattle.determinator.specs.Places.{IsPlace}
 use Rattle.determinator.specs.Reports.{IsReport}
 use Rattle.split_lemma.specs.SplitForms.{IsSplitUpTo, HasSquares}
@@ -148,13 +149,19 @@ first_place f g j c e chain first =
           (subst (λ (s : Scalars Rational). IsSplitUpTo f.n s c 2 (first_jet f.n g)) (sym scalars_same) (splits f.n c (first_jet f.n g) sum));
     }
 
--- nothing residual is left in degree 2
-pub first_without : (f : JetTerms Frac) (g : Polynomial f.n Rational) → IsJetOfGerm f g → (c : ℕ) → c ≡ corank_of_germ f.n g
-    → IsWithoutResidual f.n c (brought f.n c g algebras.Rational 2 (first_move f.n g ∷ []))
+-- from corank 4 on the jet is past the list: nothing residual is left in degree 2
+pub first_past : (f : JetTerms Frac) → IsGermJet f → (g : Polynomial f.n Rational) → IsJetOfGerm f g → (c : ℕ) → c ≡ corank_of_germ f.n g → 4 ≤ c
+    → IsPastList f.n c 2 algebras.Rational patterns.O (brought f.n c g algebras.Rational 2 (first_move f.n g ∷ []))
 unfolding scalars
-first_without f g j c e =
+first_past f h g j c e many =
     let sum : IsSumOfSquares f.n rational_scalars c (first_jet f.n g) = subst (λ z. IsSumOfSquares f.n rational_scalars z (first_jet f.n g)) (sym e) (is_sum f.n g j.low) in
-    subst (λ p. IsWithoutResidual f.n c p) (sym (first_jet_is f.n c g)) (without_residual f.n c (first_jet f.n g) sum)
+    let within = corank_low f.n g j.low in
+    let few = h.at_most_8_variables in
+    subst (IsPastList f.n c 2 algebras.Rational patterns.O) (sym (first_jet_is f.n c g)) (record {
+      corank = and_both (nat_le 4 c) (nat_le c 8) (le-leb 4 c many) (le-leb c 8 (omega arith));
+      order = refl;
+      admitted = λ m none le no. without_residual f.n c (first_jet f.n g) sum m none le;
+    })
 
 module _ (names : List Name) (n last : ℕ) (g : Polynomial n Rational) where
   -- the first step, by whether the corank is at least 4

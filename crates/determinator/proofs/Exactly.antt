@@ -1,5 +1,5 @@
 -- Which lines get which answer: two kinds of answers exclude each other, since bytes spell one line.
-use Rattle.std.proofs.Common.{true, false, true≢false, ◌≡◌, ℕ, ◌+◌, ◌<◌, ◌≤◌, ◌⊎◌, inl, inr, List, length, refl, sym, ap, ap₂, subst, ◌∙◌, arith}
+use Rattle.std.proofs.Common.{true, true≢false, ◌≡◌, ℕ, ◌+◌, ◌<◌, ◌≤◌, ◌⊎◌, inl, inr, List, length, refl, sym, ap, ap₂, subst, ◌∙◌, arith}
 use Rattle.line_syntax.specs.Syntax.{Line}
 use Rattle.poly_text.specs.declared.name.Name.{Name}
 use Rattle.poly_text.specs.declared.what.What.{What}

@@ -1,12 +1,10 @@
 -- The reports without a name are true of the germ.
-use Rattle.std.proofs.Common.{◌≡◌, ◌≢◌, ℕ, ◌≤◌, Bool, true, false, not, ◌||◌, IsTrue, List, [], ◌∷◌, length, sum, refl, sym, ap, subst, ◌∙◌, le-leb, arith}
-use Rattle.std.specs.Prelude.{nat_le}
+use Rattle.std.proofs.Common.{◌≡◌, ◌≢◌, ℕ, ◌≤◌, inl, inr, Bool, true, false, not, ◌||◌, IsTrue, List, [], ◌∷◌, get_or, length, sum, refl, sym, ap, ap₂, subst, ◌∙◌, arith}
 use Rattle.std.specs.List.{All, AllByRecursion, list_all}
 use Rattle.std.proofs.lemmas.List.Elements.{recursion_from_All}
 use Rattle.ring_theory.specs.Rational.{Rational}
 use Rattle.ring_law.specs.declared.fraction.Frac.{Frac}
 use Rattle.ext_algebra.specs.declared.algebra.Algebra.{Algebra}
-use Rattle.ext_algebra.specs.declared.algebra.Algebra.TheVariants as algebras
 use Rattle.ext_algebra.specs.declared.algebra.Ext.{Ext}
 use Rattle.ext_algebra.specs.Algebra.{Value, ops, value_in, algebra_meaning, IsFieldAlgebra}
 use Rattle.ext_algebra.specs.AlgebraLaws.{algebra_scalar_laws}
@@ -20,7 +18,8 @@ use Rattle.coord_change.specs.declared.change.Change.{Change}
 use Rattle.coord_change.specs.Moves.{Move}
 use Rattle.determinacy.specs.declared.row.MatherRow.{MatherRow}
 use Rattle.determinacy.specs.Tests.{IsMonomialIn}
-use Rattle.normal_forms.specs.declared.pattern.Pattern.TheVariants as patterns
+use Rattle.normal_forms.specs.declared.pattern.Pattern.{Pattern}
+use Rattle.normal_forms.specs.Patterns.{admits}
 use Rattle.normal_forms.specs.Monomials.{is_split, is_residual}
 use Rattle.normal_forms.specs.Forms.{admits_monomial}
 use Rattle.normal_forms.proofs.Members.{residual_all}
@@ -30,11 +29,12 @@ use Rattle.cert_text.specs.declared.report.Carried as carried_type
 use Rattle.report_law.specs.Polynomials.{terms_in, residual_part}
 use Rattle.report_law.specs.Items.{residual_of}
 use Rattle.report_law.proofs.Splitting.{and_both}
+use Rattle.kept_law.proofs.PartDegrees.{past_end}
 use Rattle.coord_change.specs.Chains.{ChainParts, carried_in}
 use Rattle.coord_change.specs.MoveJets.{IsJetFor}
 use Rattle.move_law.specs.Algebras as algebras_law
 use Rattle.plan_law.specs.Run.{brought}
-use Rattle.determinator.specs.Carried.{with_parts, IsCarriedFrom, IsWithoutResidual}
+use Rattle.determinator.specs.Carried.{with_parts, IsCarriedFrom, IsPastList}
 use Rattle.determinator.specs.Jets.{IsListed, residual_jet, AreRowsFor, IsFailureFor}
 use Rattle.determinator.specs.Places.{IsPlace}
 use Rattle.determinator.specs.Reports.{AreNames, IsLimitGerm, IsOutsideGerm, IsUnresolvedGerm}
@@ -46,7 +46,15 @@ use Rattle.certificate.specs.Evidence.{AreReportedRows, IsReportedTest}
 use Rattle.certificate.proofs.Answered
 use Rattle.determinator.proofs.Chained
 use Rattle.determinator.proofs.SplitTests
+use Rattle.determinator.proofs.SplitTests.{below_or_past}
 use Rattle.determinator.proofs.Terms
+
+-- the exponents of a monomial are read in its list
+entries_of : (n : ℕ) (t : Exp) → IsIn n t.e → (k : ℕ) → get_or (exp_of n t).entries k 0 ≡ get_or t.e k 0
+entries_of n t inside k = elim (below_or_past k n) [
+  | inl g ↦ at-exp_of n t k g
+  | inr g ↦ past_end (exp_of n t).entries k (let l = (exp_of n t).long in omega arith) ∙ sym (inside k g)
+]
 
 -- ---- a place, and its jet
 
@@ -117,47 +125,44 @@ module _ (names : List Name) (n : ℕ) (are : AreNames n names) (c last : ℕ) (
             determined = record { split = is_split_jet; rows = rows_reported.each };
           }
 
--- ---- outside
+  -- ---- past the list
 
-module _ (names : List Name) (n : ℕ) (are : AreNames n names) (c last : ℕ) (germ : Polynomial n Rational) (field : IsFieldAlgebra algebras.Rational) (moves : List (Move n Rational)) (chain : ChainParts (Ext Frac))
-    (place_is : IsPlace n c last germ algebras.Rational 2 moves chain) (change : Change (Ext Frac)) (listed : IsListed (carried_in chain))
-    (from : IsCarriedFrom names n c algebras.Rational 2 moves chain (with_parts names algebras.Rational 2 c change (carried_in chain))) (many : 4 ≤ c) (without : IsWithoutResidual n c (brought n c germ algebras.Rational 2 moves)) where
-  abbrev g : JetTerms (Ext Frac)
-  g = carried_in chain
+  module _ (pattern : Pattern) (past : IsPastList n c o a pattern (brought n c germ a o moves)) where
+    -- each residual term is admitted
+    terms_admitted : (ts : List (Exp × Ext Frac)) → AllByRecursion (λ t. IsIn n t.0.e) ts → AllByRecursion (λ t. sum t.0.e ≤ o) ts → AllByRecursion (λ t. value_in a t.1 ≢ (ops a).zero) ts
+        → AllByRecursion (λ t. coefficient_in n (ops a) (brought n c germ a o moves) (exp_of n t.0) ≡ value_in a t.1) ts → list_all (λ t. not (is_residual c t.0) || admits_monomial pattern t.0) ts ≡ true
+    terms_admitted [] i d u e = refl
+    terms_admitted (t ∷ ts) i d u e =
+        and_both (not (is_residual c t.0) || admits_monomial pattern t.0) (list_all (λ t. not (is_residual c t.0) || admits_monomial pattern t.0) ts)
+        (step (is_residual c t.0) refl (admits_monomial pattern t.0) refl) (terms_admitted ts i.1 d.1 u.1 e.1)
+      where
+        entry : (k : ℕ) → get_or (exp_of n t.0).entries k 0 ≡ get_or t.0.e k 0
+        entry k = entries_of n t.0 i.0 k
 
-  abbrev Q : Algebra
-  Q = algebras.Rational
+        read : admits pattern (get_or (exp_of n t.0).entries 0 0) (get_or (exp_of n t.0).entries 1 0) (get_or (exp_of n t.0).entries 2 0) ≡ admits_monomial pattern t.0
+        read =
+            ap (λ k. admits pattern k (get_or (exp_of n t.0).entries 1 0) (get_or (exp_of n t.0).entries 2 0)) (entry 0)
+            ∙ ap₂ (λ k l. admits pattern (get_or t.0.e 0 0) k l) (entry 1) (entry 2)
 
-  here : IsJetFor (algebra_meaning Q) n 2 (brought n c germ Q 2 moves) g
-  here = Chained.carried_is (algebra_meaning Q) n last (algebras_law.lifted Q germ) 2 moves chain place_is.chain_is
+        step : (b : Bool) → is_residual c t.0 ≡ b → (q : Bool) → admits_monomial pattern t.0 ≡ q → (not (is_residual c t.0) || admits_monomial pattern t.0) ≡ true
+        step false e1 q e2 = ap (λ b. not b || admits_monomial pattern t.0) e1
+        step true e1 true e2 = ap₂ (λ b q. not b || q) e1 e2
+        step true e1 false e2 =
+            absurd (u.0 (sym e.0 ∙ past.admitted (exp_of n t.0) (λ k ck kn. at-exp_of n t.0 k kn ∙ residual_in c t.0 e1 k ck) (let l = d.0 in let s = degree-exp_of n t.0 i.0 in omega arith) (read ∙ e2)))
 
-  -- no term is residual
-  none_residual : (ts : List (Exp × Ext Frac)) → AllByRecursion (λ t. IsIn n t.0.e) ts → AllByRecursion (λ t. sum t.0.e ≤ 2) ts → AllByRecursion (λ t. value_in Q t.1 ≢ (ops Q).zero) ts
-      → AllByRecursion (λ t. coefficient_in n (ops Q) (brought n c germ Q 2 moves) (exp_of n t.0) ≡ value_in Q t.1) ts → list_all (λ t. not (is_residual c t.0) || admits_monomial patterns.O t.0) ts ≡ true
-  none_residual [] i d u e = refl
-  none_residual (t ∷ ts) i d u e =
-      and_both (not (is_residual c t.0) || false) (list_all (λ t. not (is_residual c t.0) || admits_monomial patterns.O t.0) ts) (step (is_residual c t.0) refl) (none_residual ts i.1 d.1 u.1 e.1)
-    where
-      step : (b : Bool) → is_residual c t.0 ≡ b → (not (is_residual c t.0) || false) ≡ true
-      step true q =
-          absurd (u.0 (sym e.0 ∙ without (exp_of n t.0) (λ k ck kn. at-exp_of n t.0 k kn ∙ residual_in c t.0 q k ck) (let l = d.0 in let s = degree-exp_of n t.0 i.0 in omega arith)))
-      step false q = ap (λ b. not b || false) q
-
-  pub outside_germ : IsOutsideGerm names n last germ (record { pattern = patterns.O; carried = with_parts names Q 2 c change g })
-  outside_germ =
-      let inside = subst (λ z. All (λ (t : Exp × Ext Frac). IsIn z t.0.e) g.terms) here.variables here.jet.variables in
-      let low = subst (λ z. All (λ (t : Exp × Ext Frac). sum t.0.e ≤ z) g.terms) here.order here.jet.degrees in
-      let own = subst (λ q. AllByRecursion (λ (t : Exp × Ext Frac). coefficient_in n (ops Q) q (exp_of n t.0) ≡ value_in Q t.1) g.terms) here.polynomial
-      (Terms.own_coefficients (algebra_meaning Q) (algebra_scalar_laws Q).ring n g.terms inside listed.rising) in
-      let at_most = place_is.chain_is.at_most_8_variables in
-      let fewer = place_is.corank in
-      record {
-        carried = carried_germ names n are c last germ Q field 2 moves chain place_is (with_parts names Q 2 c change g) from;
-        order = refl;
-        pattern = record {
-          corank = and_both (nat_le 4 c) (nat_le c 8) (le-leb 4 c many) (le-leb c 8 (omega arith));
-          split = is_split_jet names n are c last germ Q field 2 moves chain place_is change listed from;
-          monomials = residual_all (admits_monomial patterns.O) c g.terms
-              ∙ none_residual g.terms (recursion_from_All (λ t. IsIn n t.0.e) g.terms inside) (recursion_from_All (λ t. sum t.0.e ≤ 2) g.terms low) (recursion_from_All (λ t. value_in Q t.1 ≢ (ops Q).zero) g.terms here.jet.units) own;
-        };
-      }
+    pub outside_germ : IsOutsideGerm names n last germ (record { pattern = pattern; carried = R })
+    outside_germ =
+        let inside = subst (λ z. All (λ (t : Exp × Ext Frac). IsIn z t.0.e) f.terms) jet_is.variables jet_is.jet.variables in
+        let low = subst (λ z. All (λ (t : Exp × Ext Frac). sum t.0.e ≤ z) f.terms) jet_is.order jet_is.jet.degrees in
+        let own = subst (λ q. AllByRecursion (λ (t : Exp × Ext Frac). coefficient_in n (ops a) q (exp_of n t.0) ≡ value_in a t.1) f.terms) jet_is.polynomial
+        (Terms.own_coefficients (algebra_meaning a) (algebra_scalar_laws a).ring n f.terms inside listed.rising) in
+        record {
+          carried = carried_germ names n are c last germ a field o moves chain place_is R from;
+          order = past.order;
+          pattern = record {
+            corank = past.corank;
+            split = is_split_jet;
+            monomials = residual_all (admits_monomial pattern) c f.terms
+                ∙ terms_admitted f.terms (recursion_from_All (λ t. IsIn n t.0.e) f.terms inside) (recursion_from_All (λ t. sum t.0.e ≤ o) f.terms low) (recursion_from_All (λ t. value_in a t.1 ≢ (ops a).zero) f.terms jet_is.jet.units) own;
+          };
+        }

@@ -3,14 +3,13 @@ use Rattle.std.proofs.Common.{◌≡◌, ℕ, ◌≤◌, Some, List, refl, sym, 
 use Rattle.ring_theory.specs.Rational.{Rational}
 use Rattle.ring_law.specs.declared.fraction.Frac.{Frac}
 use Rattle.ext_algebra.specs.declared.algebra.Algebra.{Algebra}
-use Rattle.ext_algebra.specs.declared.algebra.Algebra.TheVariants as algebras
 use Rattle.ext_algebra.specs.declared.algebra.Ext.{Ext}
 use Rattle.ext_algebra.specs.Algebra.{Value, IsFieldAlgebra}
 use Rattle.poly_law.specs.Polynomials.{Polynomial}
 use Rattle.mono_exp.specs.declared.exponent.Exp.{Exp}
 use Rattle.coord_change.specs.Moves.{Move}
 use Rattle.determinacy.specs.declared.row.MatherRow.{MatherRow}
-use Rattle.normal_forms.specs.declared.pattern.Pattern.TheVariants as patterns
+use Rattle.normal_forms.specs.declared.pattern.Pattern.{Pattern}
 use Rattle.poly_text.specs.declared.name.Name.{Name}
 use Rattle.cert_text.specs.declared.report.Carried as carried_type
 use Rattle.cert_text.specs.declared.report.Answer.TheVariants as answers
@@ -18,7 +17,7 @@ use Rattle.coord_change.specs.Chains.{ChainParts, carried_in}
 use Rattle.plan_law.specs.Outcomes as outcomes
 use Rattle.plan_law.specs.Outcomes.{Outcome}
 use Rattle.plan_law.specs.Run.{brought, carried_by}
-use Rattle.determinator.specs.Carried.{with_parts, IsCarriedFrom, IsWithoutResidual}
+use Rattle.determinator.specs.Carried.{with_parts, IsCarriedFrom, IsPastList}
 use Rattle.determinator.specs.Jets.{AreRowsFor, IsFailureFor}
 use Rattle.determinator.specs.Places.{IsPlace}
 use Rattle.determinator.specs.Reports.{AreNames, IsReport}
@@ -52,13 +51,13 @@ module _ (names : List Name) (n : ℕ) (are : AreNames n names) (c last : ℕ) (
         is_true = GermReports.unresolved_germ names n are c last germ a field o moves chain place_is h.change h.jet_listed (from_parts names n c a o moves chain r h) low rows rows_are;
       })
 
-module _ (names : List Name) (n : ℕ) (are : AreNames n names) (c last : ℕ) (germ : Polynomial n Rational) (field : IsFieldAlgebra algebras.Rational) (moves : List (Move n Rational)) (chain : ChainParts (Ext Frac))
-    (place_is : IsPlace n c last germ algebras.Rational 2 moves chain) (r : carried_type.Carried) (h : IsCarriedFrom names n c algebras.Rational 2 moves chain r) where
-  pub outside_report : 4 ≤ c → IsWithoutResidual n c (brought n c germ algebras.Rational 2 moves)
-      → IsReport names n last germ (answers.Outside (record { pattern = patterns.O; carried = r })) (outcomes.outside patterns.O (carried_by n c germ algebras.Rational 2 moves (brought n c germ algebras.Rational 2 moves)))
-  outside_report many without =
-      subst (λ q. IsReport names n last germ (answers.Outside (record { pattern = patterns.O; carried = q })) (outcomes.outside patterns.O (carried_by n c germ algebras.Rational 2 moves (brought n c germ algebras.Rational 2 moves)))) (sym h.is)
+  -- ---- past the list
+
+  pub outside_report : (pattern : Pattern) → IsPastList n c o a pattern (brought n c germ a o moves)
+      → IsReport names n last germ (answers.Outside (record { pattern = pattern; carried = r })) (outcomes.outside pattern (carried_by n c germ a o moves (brought n c germ a o moves)))
+  outside_report pattern past =
+      subst (λ q. IsReport names n last germ (answers.Outside (record { pattern = pattern; carried = q })) (outcomes.outside pattern (carried_by n c germ a o moves (brought n c germ a o moves)))) (sym h.is)
       (record {
-        reports = ap (λ q. Some (outcomes.outside patterns.O q)) (planned n c last germ algebras.Rational 2 moves chain place_is names h.change h.change_is);
-        is_true = GermReports.outside_germ names n are c last germ field moves chain place_is h.change h.jet_listed (from_parts names n c algebras.Rational 2 moves chain r h) many without;
+        reports = ap (λ q. Some (outcomes.outside pattern q)) (planned n c last germ a o moves chain place_is names h.change h.change_is);
+        is_true = GermReports.outside_germ names n are c last germ a field o moves chain place_is h.change h.jet_listed (from_parts names n c a o moves chain r h) pattern past;
       })

@@ -56,7 +56,7 @@ use Rattle.determinator.proofs.Terms
 zero_or_not : (z : ℕ) → (z ≡ 0) ⊎ (0 < z)
 zero_or_not z = grind arith
 
-below_or_past : (i n : ℕ) → (i < n) ⊎ (n ≤ i)
+pub below_or_past : (i n : ℕ) → (i < n) ⊎ (n ≤ i)
 below_or_past i n = grind arith
 
 -- a monomial that is not residual has a square variable

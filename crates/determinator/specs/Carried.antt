@@ -1,10 +1,8 @@
 -- What a report carries of a chain.
-use Rattle.std.specs.Prelude.{◌≡◌, ℕ, ◌<◌, ◌≤◌, List}
+use Rattle.std.specs.Prelude.{◌≡◌, ℕ, ◌<◌, ◌≤◌, false, IsTrue, get_or, List}
 use Rattle.std.specs.List.{All}
-use Rattle.ring_theory.specs.Rational.{Rational}
 use Rattle.ring_law.specs.declared.fraction.Frac.{Frac}
 use Rattle.ext_algebra.specs.declared.algebra.Algebra.{Algebra}
-use Rattle.ext_algebra.specs.declared.algebra.Algebra.TheVariants as algebras
 use Rattle.ext_algebra.specs.declared.algebra.Ext.{Ext}
 use Rattle.ext_algebra.specs.Algebra.{Value, scalars, ops, algebra_meaning}
 use Rattle.poly_law.specs.Exps.{degree}
@@ -14,6 +12,8 @@ use Rattle.coord_change.specs.declared.change.Change.{Change}
 use Rattle.coord_change.specs.Moves.{Move}
 use Rattle.coord_change.specs.Carries.{composite}
 use Rattle.jet_poly.specs.JetTerms.{JetTerms}
+use Rattle.normal_forms.specs.declared.pattern.Pattern.{Pattern}
+use Rattle.normal_forms.specs.Patterns.{has_corank, order_of, admits}
 use Rattle.poly_text.specs.declared.name.Name.{Name}
 use Rattle.cert_text.specs.declared.report.Carried as carried_type
 use Rattle.coord_change.specs.Chains.{ChainParts, carried_in}
@@ -32,6 +32,10 @@ pub record IsCarriedFrom (names : List Name) (n c : ℕ) (a : Algebra) (o : ℕ)
   pub jet_listed : IsListed (carried_in chain)
   pub is : r ≡ with_parts names a o c change (carried_in chain)
 
--- over the rational numbers f has no terms of degree at most 2 in the first c variables alone
-abbrev pub IsWithoutResidual : (n c : ℕ) → Polynomial n Rational → Type 0
-IsWithoutResidual n c f = (m : ExpList n) → ((i : ℕ) → c ≤ i → i < n → (exps n).at m i ≡ 0) → degree (exps n) m ≤ 2 → coefficient_in n (ops algebras.Rational) f m ≡ (ops algebras.Rational).zero
+-- f, known up to degree o, is past the list by this pattern: the pattern is one of this corank and order, and no other monomial in the first c variables than
+-- those that it admits has a term of degree at most o
+pub record IsPastList (n c o : ℕ) (a : Algebra) (pattern : Pattern) (f : Polynomial n (Value a)) : Type 0 where
+  pub corank : IsTrue (has_corank pattern c)
+  pub order : o ≡ order_of pattern
+  pub admitted : (m : ExpList n) → ((i : ℕ) → c ≤ i → i < n → (exps n).at m i ≡ 0) → degree (exps n) m ≤ o
+      → admits pattern (get_or m.entries 0 0) (get_or m.entries 1 0) (get_or m.entries 2 0) ≡ false → coefficient_in n (ops a) f m ≡ (ops a).zero

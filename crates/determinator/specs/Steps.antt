@@ -15,12 +15,12 @@ use Rattle.cert_text.specs.declared.report.Phase.TheVariants as phases
 use Rattle.coord_change.specs.Moves.{Move}
 use Rattle.coord_change.specs.Chains.{ChainParts}
 use Rattle.determinacy.specs.Tests.{IsTestHigh}
-use Rattle.normal_forms.specs.declared.pattern.Pattern.TheVariants as patterns
+use Rattle.normal_forms.specs.declared.pattern.Pattern.{Pattern}
 use Rattle.move_law.specs.Moves.{residual}
 use Rattle.plan_law.specs.Outcomes as outcomes
 use Rattle.plan_law.specs.Pieces.{HasHigh}
 use Rattle.plan_law.specs.Run.{IsHighFrom, brought, carried_by, composing_pieces, finished, finishing_pieces, searching, split_at, split_pieces, tests}
-use Rattle.determinator.specs.Carried.{IsCarriedFrom, IsWithoutResidual}
+use Rattle.determinator.specs.Carried.{IsCarriedFrom, IsPastList}
 use Rattle.determinator.specs.Places.{IsPlace}
 use Rattle.determinator.specs.Reports.{AreNames, IsReport}
 use Rattle.determinator.specs.Turns.{IsOpened, IsOpeningHigh, IsTurned}
@@ -57,13 +57,13 @@ module _ (c : ℕ) (a : Algebra) (chain : ChainParts (Ext Frac)) where
   IsLimit names r = (n o : ℕ) (germ : Polynomial n Rational) (moves : List (Move n (Value a))) → AreNames n names → 3 ≤ o → IsPlace n c o germ a o moves chain
       → IsReport names n o germ r (outcomes.limit (carried_by n c germ a o moves (brought n c germ a o moves)))
 
-module _ (c : ℕ) (chain : ChainParts (Ext Frac)) where
-  -- where the chain stands at order 2 with no residual part, the answer reports the outcome `outside` of the plan with the pattern O, and is true of the germ
-  abbrev pub IsOutside : List Name → Answer → Type 0
-  IsOutside names r = (n last : ℕ) (germ : Polynomial n Rational) (moves : List (Move n Rational)) → AreNames n names → IsPlace n c last germ algebras.Rational 2 moves chain
-      → IsWithoutResidual n c (brought n c germ algebras.Rational 2 moves)
-      → IsReport names n last germ r (outcomes.outside patterns.O (carried_by n c germ algebras.Rational 2 moves (brought n c germ algebras.Rational 2 moves)))
+  -- where the jet of the chain is past the list by the pattern, the answer reports the outcome `outside` of the plan with the pattern, and is true of the germ
+  abbrev pub IsOutside : Pattern → List Name → Answer → Type 0
+  IsOutside pattern names r = (n last o : ℕ) (germ : Polynomial n Rational) (moves : List (Move n (Value a))) → AreNames n names
+      → IsPlace n c last germ a o moves chain → IsPastList n c o a pattern (brought n c germ a o moves)
+      → IsReport names n last germ r (outcomes.outside pattern (carried_by n c germ a o moves (brought n c germ a o moves)))
 
+module _ (c : ℕ) (chain : ChainParts (Ext Frac)) where
   -- the answer reports the outcome of the plan's finish before a part is known, and is true of the germ
   abbrev pub IsFinishedSearch : List Name → Answer → Type 0
   IsFinishedSearch names r = (n last o : ℕ) (germ : Polynomial n Rational) (moves : List (Move n Rational)) → AreNames n names → IsPlace n c last germ algebras.Rational o moves chain

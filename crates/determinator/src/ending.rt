@@ -3,7 +3,6 @@
 ghost use Rattle.std.specs.Prelude.{◌≡◌, ◌≤◌, IfOk, All};
 ghost use Rattle.ring_law.specs.Refusals.{OnFault};
 ghost use Rattle.ext_algebra.specs.Algebra.{IsFieldAlgebra};
-ghost use Rattle.ext_algebra.specs.declared.algebra.Algebra.TheVariants as algebras;
 ghost use Rattle.coord_change.specs.Chains.{carried_in};
 ghost use Rattle.determinator.specs.Jets.{IsListed, IsFailureFor};
 ghost use Rattle.determinator.specs.Places.{IsPlaced};
@@ -100,24 +99,22 @@ pub fn limited(
     }))
 }
 
-/// The answer where the germ has corank 4 or more.
+/// The answer where a pattern past the list is decided: O in corank 4 and more, the other patterns by the test of a part.
 ///
 /// Errors: `Range` only where composing the moves forms a number of height 2^120 or more.
 pub fn outside(
     alloc: Global,
     names: &[Name],
+    algebra: Algebra,
     corank: u8,
+    pattern: Pattern,
     chain: &Chain<Ext<Frac>>,
 ) -> Result<Answer, Fault>
-    requires field { IsFieldAlgebra algebras.Rational }
-    requires placed { IsPlaced corank algebras.Rational chain.now }
-    requires many { 4 ≤ corank }
-    ensures report { IfOk result (IsOutside corank chain.now names.now) }
-    ensures range { OnFault result (IsComposingHigh corank algebras.Rational chain.now) }
+    requires field { IsFieldAlgebra algebra }
+    requires placed { IsPlaced corank algebra chain.now }
+    ensures report { IfOk result (IsOutside corank algebra chain.now pattern names.now) }
+    ensures range { OnFault result (IsComposingHigh corank algebra chain.now) }
 {
-    let carried = carried_of(alloc, names, Algebra::Rational, corank, chain)?;
-    Ok(Answer::Outside(Outside {
-        pattern: Pattern::O,
-        carried,
-    }))
+    let carried = carried_of(alloc, names, algebra, corank, chain)?;
+    Ok(Answer::Outside(Outside { pattern, carried }))
 }

@@ -17,6 +17,7 @@ use coord_change::{Chain, Change, Steps, push, start};
 use ext_algebra::{Algebra, AlgebraField, Ext};
 use hessian_rank::diagonalise;
 use jet_poly::Jet;
+use normal_forms::Pattern;
 use poly_text::Name;
 use ring_law::{Fault, Frac};
 use std::alloc::Global;
@@ -90,7 +91,7 @@ pub fn begin<L: Ledger>(
         let step = Step::Searching(chain);
         return Ok(Begun::First(First { corank, step }));
     }
-    match outside(alloc, names, corank, &chain) {
+    match outside(alloc, names, Algebra::Rational, corank, Pattern::O, &chain) {
         Ok(answer) => Ok(Begun::First(First {
             corank,
             step: Step::Ends(answer),

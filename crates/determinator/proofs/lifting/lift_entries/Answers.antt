@@ -1,4 +1,4 @@
-use Rattle.std.proofs.Common.{◌≡◌, ◌+◌, ◌++◌, [], ◌∷◌, take, sym, ap, subst, ◌∙◌}
+use Rattle.std.proofs.Common.{◌+◌, ◌++◌, [], ◌∷◌, take, sym, ap, subst, ◌∙◌}
 use Rattle.ext_algebra.specs.declared.algebra.Ext.{Ext}
 use Rattle.ring_law.specs.declared.fraction.Frac.{Frac}
 use Rattle.determinator.specs.Lifted.{AreLiftedEntries}

@@ -1,4 +1,4 @@
-use Rattle.std.proofs.Common.{◌≡◌, ◌+◌, ◌<◌, ◌++◌, List, [], ◌∷◌, take, length, get_or, sym, ap, subst}
+use Rattle.std.proofs.Common.{◌≡◌, ◌+◌, ◌<◌, List, take, length, get_or, sym, subst}
 use Rattle.ring_law.specs.declared.fraction.Frac.{Frac}
 use Rattle.jet_poly.specs.JetTerms.{JetTerms}
 use Rattle.determinator.specs.Lifted.{AreLiftedParts}

@@ -1,4 +1,4 @@
-use Rattle.std.proofs.Common.{◌≡◌, take}
+use Rattle.std.proofs.Common.{take}
 use Rattle.determinator.specs.Lifted.{AreLiftedParts}
 use Rattle.determinator.proofs.lifting.lift_parts.Given as goal
 

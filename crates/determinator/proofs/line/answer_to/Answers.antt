@@ -1,4 +1,4 @@
-use Rattle.std.proofs.Common.{◌≡◌, List, sym, subst}
+use Rattle.std.proofs.Common.{List, sym, subst}
 use Rattle.poly_text.specs.declared.name.Name.{Name}
 use Rattle.line_germ.specs.Reads.{IsReadOf}
 use Rattle.determinator.specs.Answered.{ArePlanned}

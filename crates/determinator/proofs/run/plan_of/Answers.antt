@@ -1,12 +1,8 @@
-use Rattle.std.proofs.Common.{◌≡◌, ℕ, true, subst, sym, ap}
-use Rattle.ring_theory.specs.Rational.{Rational}
-use Rattle.poly_law.specs.Polynomials.{Polynomial}
-use Rattle.plan_law.specs.Plan.{corank_of_germ, started}
-use Rattle.planned_law.specs.Planned.{is_unbuilt}
-use Rattle.determinator.specs.Answered.{ArePlanned, IsPlannedAnswer, by_corank}
-use Rattle.determinator.specs.Starts.{AreBegun, IsBegun, IsJetOfGerm}
+use Rattle.std.proofs.Common.{subst, sym}
+use Rattle.plan_law.specs.Plan.{started}
+use Rattle.determinator.specs.Answered.{ArePlanned, by_corank}
+use Rattle.determinator.specs.Starts.{IsBegun}
 use Rattle.determinator.specs.Turns.{IsHighBy, IsOverBy, IsRunning}
-use Rattle.determinator.specs.declared.start.Begun.{Begun}
 use Rattle.determinator.proofs.Exits.{if_ok, on_stop}
 use Rattle.determinator.proofs.Planning.{ahead_of, high_of, planned_of, running_of}
 use Rattle.determinator.proofs.run.plan_of.Goals as goal

@@ -1,4 +1,4 @@
-use Rattle.std.proofs.Common.{◌≡◌, ℕ, suc, ◌+◌, ◌≤◌, sym, subst, arith}
+use Rattle.std.proofs.Common.{◌≡◌, suc, ◌+◌, sym, subst, arith}
 use Rattle.determinator.specs.Turns.{IsAhead}
 use Rattle.determinator.specs.declared.step.Step.TheVariants as steps
 use Rattle.determinator.proofs.Exits.{stop_handed_on}

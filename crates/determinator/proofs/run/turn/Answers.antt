@@ -1,5 +1,4 @@
-use Rattle.std.proofs.Common.{◌≡◌, ℕ, suc, ◌≤◌, subst, arith}
-use Rattle.determinator.specs.Reports.{AreNames}
+use Rattle.std.proofs.Common.{suc, subst, arith}
 use Rattle.determinator.specs.Steps.{IsTurnedSearch}
 use Rattle.determinator.specs.Turns.{IsAhead, IsAheadBy, IsRunning}
 use Rattle.determinator.proofs.Exits.{if_ok, on_stop}

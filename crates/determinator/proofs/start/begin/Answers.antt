@@ -1,7 +1,7 @@
-use Rattle.std.proofs.Common.{◌≡◌, ◌≤◌, inl, inr, [], ◌∷◌, arith}
+use Rattle.std.proofs.Common.{inl, inr, [], ◌∷◌, arith}
 use Rattle.cert_text.specs.declared.report.Phase.TheVariants as phases
 use Rattle.plan_law.specs.Plan.{first_move}
-use Rattle.determinator.proofs.Beginning.{begin_outside, begin_searching, begin_unbuilt, corank_is, first_place, first_without, high_outside, many, work_is}
+use Rattle.determinator.proofs.Beginning.{begin_outside, begin_searching, begin_unbuilt, corank_is, first_place, first_past, high_outside, many, work_is}
 use Rattle.determinator.proofs.Exits.{stop_high}
 use Rattle.determinator.proofs.start.begin.Goals as goal
 use Rattle.determinator.proofs.start.begin.Goals.{then-corank-eq2-via-then-corank-eq2, then-corank-eq2-via-else-corank-eq2+then-corank-eq3}
@@ -48,8 +48,8 @@ returns-in-Ok-outside-clause-begun g c q is =
     let not_3 = c.if-corank-eq3.false in
     let not_less = c.if-corank-lt2.false in
     begin_outside f c.requires.germ q is c.args.names.now d.corank here (omega arith) c.in-Ok-outside.answer
-    (c.in-Ok-outside.ensures.report f.n f.order q (first_move f.n q ∷ []) c.requires.names
-    (first_place f q is d.corank here c.in-Ok-start_chain.chain (c.in-Ok-start_chain.ensures.chain q is)) (first_without f q is d.corank here))
+    (c.in-Ok-outside.ensures.report f.n f.order 2 q (first_move f.n q ∷ []) c.requires.names
+    (first_place f q is d.corank here c.in-Ok-start_chain.chain (c.in-Ok-start_chain.ensures.chain q is)) (first_past f c.requires.germ q is d.corank here (omega arith)))
 
 pub returns-clause-range : goal.returns-clause-range
 returns-clause-range g c =

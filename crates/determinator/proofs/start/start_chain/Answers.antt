@@ -1,8 +1,6 @@
-use Rattle.std.proofs.Common.{◌≡◌, ◌<◌, ◌≤◌, [], ◌∷◌, sym, subst, ◌∙◌, arith}
+use Rattle.std.proofs.Common.{[], sym, ◌∙◌, arith}
 use Rattle.ring_law.proofs.Exits.{fault_handed_on}
-use Rattle.ring_law.specs.Fraction.{rational_meaning}
 use Rattle.ext_algebra.specs.declared.algebra.Algebra.TheVariants as algebras
-use Rattle.jet_poly.specs.Jets.{polynomial_of}
 use Rattle.move_law.specs.Algebras.{lifted}
 use Rattle.plan_law.specs.Plan.{first_move}
 use Rattle.determinator.proofs.Beginning.{move_is}

@@ -1,11 +1,8 @@
-use Rattle.std.proofs.Common.{◌≡◌, ℕ, ◌<◌, ◌≤◌, List, ap, arith}
-use Rattle.ring_theory.specs.Rational.{Rational}
+use Rattle.std.proofs.Common.{◌≡◌, ap, arith}
 use Rattle.ring_law.specs.declared.fraction.Frac.{Frac}
 use Rattle.ext_algebra.specs.declared.algebra.Algebra.TheVariants as algebras
 use Rattle.ext_algebra.specs.declared.algebra.Ext.{Ext}
-use Rattle.poly_law.specs.Polynomials.{Polynomial}
 use Rattle.jet_poly.specs.JetTerms.{JetTerms}
-use Rattle.coord_change.specs.Moves.{Move}
 use Rattle.determinacy.specs.declared.row.MatherTest.TheVariants as mather
 use Rattle.cert_text.specs.declared.report.Phase.TheVariants as phases
 use Rattle.plan_law.specs.Run.{brought, searching}

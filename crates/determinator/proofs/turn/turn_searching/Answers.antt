@@ -1,4 +1,4 @@
-use Rattle.std.proofs.Common.{◌≡◌, ℕ, subst}
+use Rattle.std.proofs.Common.{subst}
 use Rattle.ext_algebra.specs.declared.algebra.Algebra.TheVariants as algebras
 use Rattle.coord_change.specs.Chains.{carried_in}
 use Rattle.determinacy.specs.declared.row.MatherTest.TheVariants as mather
