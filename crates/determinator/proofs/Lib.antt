@@ -21,4 +21,9 @@ mod Finishing
 mod TestLemmas
 mod LiftLemmas
 mod LineAnswers
+mod PartTables
+mod PartLemmas
+mod PartPlacing
+mod PartPatterns
+mod PartExtensions
 pub mod Exactly

@@ -10,3 +10,5 @@ pub mod Answered
 pub mod Naming
 pub mod Lines
 pub mod Exact
+pub mod PartPlaces
+pub mod PartSteps

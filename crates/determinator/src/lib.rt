@@ -2,8 +2,10 @@
 #![tactic(auto)]
 
 mod ending;
+mod extending;
 mod finish;
 mod jet;
+mod killing;
 mod lifting;
 mod line;
 mod naming;
@@ -17,8 +19,10 @@ mod testing;
 mod turn;
 
 pub use ending::{carried_of, limited, outside};
+pub use extending::{Extension, open_reduced};
 pub use finish::finish_searching;
 pub use jet::{residual_part, squares_of};
+pub use killing::kill_next;
 pub use lifting::{lift_change, lift_jet};
 pub use line::classify;
 pub use naming::{Naming, family_found, naming_of};
