@@ -63,14 +63,16 @@ Q = algebras.Rational
 abbrev s : Scalars Rational
 s = scalars Q
 
--- in corank 0 and 1 the finish has no moves
-finish_begins : {V : Type 0} (n : ℕ) (s : Scalars V) (o : ℕ) (p : Polynomial n V) (c : ℕ) → c ≤ 1 → (finish n s o c None p).0 ≡ begin_finish n s o p
+-- without a part the finish has no moves
+finish_begins : {V : Type 0} (n : ℕ) (s : Scalars V) (o : ℕ) (p : Polynomial n V) (c : ℕ) → c ≤ 3 → (finish n s o c None p).0 ≡ begin_finish n s o p
 unfolding finish
 finish_begins n s o p zero h = refl
 finish_begins n s o p (suc zero) h = refl
-finish_begins n s o p (suc (suc c)) h = absurd (omega arith)
+finish_begins n s o p (suc (suc zero)) h = refl
+finish_begins n s o p (suc (suc (suc zero))) h = refl
+finish_begins n s o p (suc (suc (suc (suc c)))) h = absurd (omega arith)
 
-module _ (n c last : ℕ) (germ : Polynomial n Rational) (o : ℕ) (moves : List (Move n Rational)) (low : c ≤ 1) where
+module _ (n c last : ℕ) (germ : Polynomial n Rational) (o : ℕ) (moves : List (Move n Rational)) (low : c ≤ 3) where
   abbrev p : Polynomial n Rational
   p = brought n c germ Q o moves
 
@@ -199,7 +201,7 @@ module _ (n c last : ℕ) (germ : Polynomial n Rational) (o : ℕ) (moves : List
       unread_report : IsUnread R → IsReport names n last germ (answer_by r rows None) (finished n c germ o (searching moves) p)
       unread_report unread =
           subst (IsReport names n last germ (answer_by r rows None)) (sym (finished_unread λ family e. read_there family false (unread family (found_back family e))))
-          (unresolved_report names n are c last germ Q field o moves chain place_is r h (let few = low in omega arith) rows rows_are)
+          (unresolved_report names n are c last germ Q field o moves chain place_is r h low rows rows_are)
 
       module _ (naming : Naming) (name : IsNamingOf R naming) where
         abbrev report : named_type.Named
@@ -238,7 +240,7 @@ module _ (n c last : ℕ) (germ : Polynomial n Rational) (o : ℕ) (moves : List
         named_parts =
             let parts = from_parts names n c Q o moves chain r h in
             let few_basis = name.quotient.few_in_basis in
-            let rows_here = GermReports.rows_reported names n are c last germ Q field o moves chain place_is h.change h.jet_listed parts (let few = low in omega arith) rows rows_are in
+            let rows_here = GermReports.rows_reported names n are c last germ Q field o moves chain place_is h.change h.jet_listed parts low rows rows_are in
             record {
               reports = (λ i. Some (outcomes.named naming.family (record { algebra = Q; order = o; corank = c; change = change_planned n c last germ Q o moves chain h.change h.change_is i; form = jet_planned n c last germ Q o moves chain place_is i }) (units_planned i)))
                   ∙ ap (λ q. Some q) (sym (finished_named naming.family (found_there naming.family name.found) read_here));

@@ -51,7 +51,7 @@ module _ {V : Type 0} (n : ℕ) (s : Scalars V) (o : ℕ) (small : o ≤ 16) (f 
       first_among (λ i. i < o + 1) (λ i. is_there n s f (power_exponents n 0 i)) (from_to 2 o) m e
       (each_kept (λ i. i < o + 1) (nat_le 2) (numbers_below (o + 1)) (numbers_are_below (o + 1)))
 
-  pub found_of_A : (c : ℕ) → c ≤ 1 → (family : Family) → (finish n s o c None f).1 ≡ Some family → IsOfA family
+  pub found_of_A : (c : ℕ) → c ≤ 3 → (family : Family) → (finish n s o c None f).1 ≡ Some family → IsOfA family
   unfolding finish
   found_of_A zero h family e = record { number = 1; small = omega arith; is = same e }
     where
@@ -65,7 +65,15 @@ module _ {V : Type 0} (n : ℕ) (s : Scalars V) (o : ℕ) (small : o ≤ 16) (f 
         where
           same : Some (families.A (m - 1)) ≡ Some family → family ≡ families.A (m - 1)
           same z = cc z
-  found_of_A (suc (suc c)) h family e = absurd (omega arith)
+  found_of_A (suc (suc zero)) h family e = none e
+    where
+      none : None ≡ Some family → IsOfA family
+      none q = absurd (cc q)
+  found_of_A (suc (suc (suc zero))) h family e = none e
+    where
+      none : None ≡ Some family → IsOfA family
+      none q = absurd (cc q)
+  found_of_A (suc (suc (suc (suc c)))) h family e = absurd (omega arith)
 
 pub simple_of : (family : Family) → IsOfA family → kind_of family ≡ kinds.Simple
 simple_of family h = subst (λ x. kind_of x ≡ kinds.Simple) (sym h.is) refl
@@ -106,6 +114,17 @@ module _ (c : Carried) where
 
   pub found_0 : c.corank ≡ 0 → Some (families.A 1) ≡ family_found c
   found_0 e = sym (ap found_in e ∙ none_residual)
+
+  more_residual : (k : ℕ) → 1 < k → k ≤ 3 → found_in k ≡ None
+  unfolding finish
+  more_residual zero h g = absurd (omega arith)
+  more_residual (suc zero) h g = absurd (omega arith)
+  more_residual (suc (suc zero)) h g = refl
+  more_residual (suc (suc (suc zero))) h g = refl
+  more_residual (suc (suc (suc (suc k)))) h g = absurd (omega arith)
+
+  pub found_more : 1 < c.corank → c.corank ≤ 3 → None ≡ family_found c
+  found_more some few = sym (more_residual c.corank some few)
 
   module _ (formed : IsWellFormedCarried c) where
     -- the jet of the report, as one of the program

@@ -1,4 +1,4 @@
--- The name of a carried germ in corank 0 and 1: the family that the finish looks for, the units with their inverses, and the Milnor algebra.
+-- The name of a carried germ without a base part: the family that the finish looks for, the units with their inverses, and the Milnor algebra.
 use Rattle.std.specs.Prelude.{◌≡◌, true, false, Option, Some, None, List, length}
 use Rattle.ring_law.specs.declared.fraction.Frac.{Frac}
 use Rattle.ext_algebra.specs.declared.algebra.Ext.{Ext}

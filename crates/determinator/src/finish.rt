@@ -23,9 +23,10 @@ use ring_law::Frac;
 use sqlite_items::Items;
 use std::alloc::Global;
 
-/// The answer where Mather's test holds before a part is known, in corank 0 and 1: a name of the
-/// series A, or `Unresolved` where the jet is no form of the family that is looked for. The finish has no moves
-/// there, so the rows of the test are those of the printed jet.
+/// The answer where Mather's test holds before a part is known: in corank 0 and 1 a name of the
+/// series A; `Unresolved` where the jet is no form of the family that is looked for, and in corank 2
+/// and 3, where none is. The finish has no moves there, so the rows of the test are those of the
+/// printed jet.
 ///
 /// Errors: `Range` in the phase of the finish or of the Milnor algebra only where composing the
 /// moves, the units and their inverses, or the Milnor algebra form a number of height 2^120 or more.
@@ -38,7 +39,7 @@ pub fn finish_searching(
 ) -> Result<Answer, Stop>
     requires field { IsFieldAlgebra algebras.Rational }
     requires placed { IsPlaced corank algebras.Rational chain.now }
-    requires few { corank ≤ 1 }
+    requires few { corank ≤ 3 }
     requires names { AreNames chain.now.germ.n names.now }
     requires rows { AreRowsFor algebras.Rational corank (carried_in chain.now) rows }
     ensures report { IfOk result (IsFinishedSearch corank chain.now names.now) }

@@ -1,4 +1,4 @@
-//! What names a carried germ in corank 0 and 1.
+//! What names a carried germ without a base part.
 
 ghost use Rattle.std.specs.Prelude.{◌≡◌, ◌≤◌, IfOk, MatchOption};
 ghost use Rattle.ext_algebra.specs.Algebra.{IsIrreducible, ops};
@@ -27,18 +27,22 @@ pub struct Naming {
     pub quotient: JetQuotient<Ext<Frac>>,
 }
 
-/// The family that the finish of a carried germ looks for: A1 in corank 0; in corank 1 A(m - 1), m
-/// the least power of the residual variable, where there is one.
+/// The family that the finish of a carried germ without a base part looks for: A1 in corank 0; in
+/// corank 1 A(m - 1), m the least power of the residual variable, where there is one; none in corank
+/// 2 and 3.
 ///
 /// Source: Arnold, Gusein-Zade, Varchenko, Singularities of Differentiable Maps, volume 1.
 pub fn family_found(c: &Carried) -> Option<Family>
     requires well_formed { IsWellFormedCarried c.now }
     requires field { IsIrreducible c.now.algebra }
-    requires few { c.now.corank ≤ 1 }
+    requires few { c.now.corank ≤ 3 }
     ensures family { result ≡ family_found_in c.now }
 {
     if c.corank == 0 {
         return Some(Family::A(1));
+    }
+    if c.corank > 1 {
+        return None;
     }
     let field = AlgebraField { algebra: c.algebra };
     match least_power(&field, &c.jet) {
@@ -47,8 +51,8 @@ pub fn family_found(c: &Carried) -> Option<Family>
     }
 }
 
-/// The name of a carried germ in corank 0 and 1, or `None` where its jet is no form of the family
-/// that the finish looks for.
+/// The name of a carried germ without a base part, or `None` where the finish looks for no family, or
+/// the jet is no form of it.
 ///
 /// Errors: `Range` in the phase of the finish only where a formula of the units, or an inverse of
 /// one, has height 2^120 or more; in the phase of the Milnor algebra only where its reduction forms
@@ -56,7 +60,7 @@ pub fn family_found(c: &Carried) -> Option<Family>
 pub fn naming_of(alloc: Global, c: &Carried) -> Result<Option<Naming>, Stop>
     requires well_formed { IsWellFormedCarried c.now }
     requires field { IsIrreducible c.now.algebra }
-    requires few { c.now.corank ≤ 1 }
+    requires few { c.now.corank ≤ 3 }
     requires low { StartsAtIn c.now.corank (ops c.now.algebra) 2 (residual_of c.now) }
     ensures naming { IfOk result (λ o. MatchOption o (IsUnread c.now) (IsNamingOf c.now)) }
     ensures range { OnStop result (IsNamingHigh c.now) }
