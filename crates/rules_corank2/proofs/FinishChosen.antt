@@ -1,5 +1,6 @@
 -- The finish by the first choice whose monomial is there.
-use Rattle.std.proofs.Common.{◌≡◌, ◌≢◌, ℕ, ◌⊎◌, inl, inr, Bool, true, false, cond, Option, Some, None, List, [], ◌∷◌, map, length, refl, sym, ap, subst, ◌∙◌, arith}
+use Rattle.std.proofs.Common.{◌≡◌, ◌≢◌, ℕ, ◌⊎◌, inl, inr, Bool, true, false, cond, Option, Some, None, List, [], ◌∷◌, map, length, refl, sym, ap, subst, ◌∙◌}
+use Rattle.std.specs.Prelude.{Result, Ok, Err, IfOk}
 use Rattle.ring_theory.specs.Scalars.{Scalars, Meaning}
 use Rattle.poly_law.specs.Polynomials.{Polynomial}
 use Rattle.kill_law.specs.declared.part.Part.{Part}
@@ -10,7 +11,6 @@ use Rattle.move_law.specs.Moves.{is_there}
 use Rattle.move_law.specs.Finish.{Finishing, Choice, choices, graded, graded_kill, chosen, finish_part}
 use Rattle.normal_forms.specs.declared.family.Family.{Family}
 use Rattle.rules_corank2.specs.declared.finish_choice.Choice as coded
-use Rattle.rules_corank2.specs.declared.finish_base.Finish as ended
 use Rattle.rules_corank2.specs.declared.finish_state.Finishing as code
 use Rattle.rules_corank2.specs.Finishes.{IsUnderWay, choice_of}
 use Rattle.rules_corank2.specs.Finished.{IsFinished}
@@ -75,7 +75,7 @@ plane p (inr (inr e)) = subst (λ z. Each IsPlane (choices z)) (sym e) plane_W
 
 module _ {V : Type 0} (n : ℕ) (s : Scalars V) (o : ℕ) (g : Finishing n V) where
   -- a graded part other than J10 has no other moves than the graded kill
-  graded_plain : (p : Part) (family : Family) → p ≢ parts.J10 → graded n s o p family g ≡ (graded_kill n s o p g, Some family)
+  pub graded_plain : (p : Part) (family : Family) → p ≢ parts.J10 → graded n s o p family g ≡ (graded_kill n s o p g, Some family)
   graded_plain parts.D4 family h = refl
   graded_plain parts.D family h = refl
   graded_plain parts.J family h = refl
@@ -142,9 +142,9 @@ module _ {V : Type 0} (n : ℕ) (s : Scalars V) (o : ℕ) (g : Finishing n V) wh
   part_none p h e = by_choices p h ∙ chosen_is (choices p) None e
 
   -- where that of a choice is the first
-  pub part_some : (p : Part) → (p ≡ parts.J) ⊎ ((p ≡ parts.Z) ⊎ (p ≡ parts.W)) → (ch : Choice) → first (λ c. is_there n s g.form c.monomial) (choices p) ≡ Some ch → ch.part ≢ parts.J10
-      → finish_part n s o p g ≡ (graded_kill n s o ch.part g, Some ch.family)
-  part_some p h ch e other = by_choices p h ∙ chosen_is (choices p) (Some ch) e ∙ graded_plain ch.part ch.family other
+  pub part_some : (p : Part) → (p ≡ parts.J) ⊎ ((p ≡ parts.Z) ⊎ (p ≡ parts.W)) → (ch : Choice) → first (λ c. is_there n s g.form c.monomial) (choices p) ≡ Some ch
+      → finish_part n s o p g ≡ graded n s o ch.part ch.family g
+  part_some p h ch e = by_choices p h ∙ chosen_is (choices p) (Some ch) e
 
 -- ---- what the program keeps
 
@@ -162,8 +162,8 @@ module _ {E V : Type 0} (m : Meaning E V) (n : ℕ) (part : Part) (is_chosen : (
   of_part ch e = first_has IsPlane there (choices part) (plane part is_chosen) (choice_of ch) (found ch e)
 
   module _ (o : ℕ) (g : Finishing n V) (form : f ≡ g.form) where
-    pub plan_some : (ch : coded.Choice) → Some ch ≡ first (λ c. there (choice_of c)) xs → ch.part ≢ parts.J10 → finish_part n m.scalars o part g ≡ (graded_kill n m.scalars o ch.part g, Some ch.family)
-    plan_some ch e other = part_some n m.scalars o g part is_chosen (choice_of ch) (subst (λ z. first (λ c. is_there n m.scalars z c.monomial) (choices part) ≡ Some (choice_of ch)) form (found ch e)) other
+    pub plan_some : (ch : coded.Choice) → Some ch ≡ first (λ c. there (choice_of c)) xs → finish_part n m.scalars o part g ≡ graded n m.scalars o ch.part ch.family g
+    plan_some ch e = part_some n m.scalars o g part is_chosen (choice_of ch) (subst (λ z. first (λ c. is_there n m.scalars z c.monomial) (choices part) ≡ Some (choice_of ch)) form (found ch e))
 
     pub plan_none : None ≡ first (λ c. there (choice_of c)) xs → finish_part n m.scalars o part g ≡ (g, None)
     plan_none e = part_none n m.scalars o g part is_chosen (subst (λ z. first (λ c. is_there n m.scalars z c.monomial) (choices part) ≡ None) form (missing e))
@@ -172,3 +172,8 @@ module _ {E V : Type 0} (m : Meaning E V) (n : ℕ) (part : Part) (is_chosen : (
 pub answers : {E V : Type 0} (m : Meaning E V) (n o : ℕ) (finish : Finishing n V × Option Family) (g : Finishing n V) (family : Option Family) → finish ≡ (g, family)
     → (state : code.Finishing E) → IsUnderWay m n o g state → IsFinished m n o finish (record { reached = state; family = family })
 answers m n o finish g family e state is = subst (λ z. IsFinished m n o z (record { reached = state; family = family })) (sym e) (record { reached = is; family = refl })
+
+-- what a call answers, handed on
+pub same_if_ok : {T U : Type 0} (r : Result T U) {P Q : T → Type 0} → ((x : T) → P x → Q x) → IfOk r P → IfOk r Q
+same_if_ok (Ok x) f h = f x h
+same_if_ok (Err e) f h = tt

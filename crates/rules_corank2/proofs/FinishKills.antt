@@ -112,7 +112,7 @@ module _ {V : Type 0} (n : ℕ) (s : Scalars V) (o : ℕ) where
   kills-next p grade g h = ap (λ z. kills_at n s o p z g) (grades-next p grade h) ∙ kills-last p (grades_before p grade) grade g
 
   -- the jet that the kills reach depends on that from which they start alone
-  kills_form : (p : Part) (grades : List ℕ) (g h : Finishing n V) → g.form ≡ h.form → (kills_at n s o p grades g).form ≡ (kills_at n s o p grades h).form
+  pub kills_form : (p : Part) (grades : List ℕ) (g h : Finishing n V) → g.form ≡ h.form → (kills_at n s o p grades g).form ≡ (kills_at n s o p grades h).form
   kills_form p [] g h e = e
   kills_form p (grade ∷ grades) g h e =
       kills_form p grades (kill_of n s o p grade g) (kill_of n s o p grade h) (ap (λ f. carry n s o (made n s (kill_move n s (letters_of n s p f) p grade f)) f) e)

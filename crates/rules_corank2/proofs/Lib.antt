@@ -1,6 +1,12 @@
 mod Divisors
 pub mod MadeMoves
 mod Pairs
+pub mod OrderedTerms
+pub mod TwoPuts
+pub mod PlaneTerms
+pub mod PlaneMoves
+pub mod Quotients
+pub mod FinishTails
 pub mod FinishChoices
 pub mod FinishChosen
 pub mod FinishHeights

@@ -2,3 +2,8 @@ pub mod Parts
 pub mod Extends
 pub mod Finishes
 pub mod Finished
+pub mod Following
+pub mod Ordered
+pub mod Puts
+pub mod Tails
+pub mod Regular

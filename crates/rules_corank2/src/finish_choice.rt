@@ -132,7 +132,7 @@ pub fn choices(part: Part) -> &'static [Choice]
 }
 
 /// The monomial x^i y^k.
-fn two_powers(i: u8, k: u8) -> Exp
+pub(crate) fn two_powers(i: u8, k: u8) -> Exp
     ensures { result.e ≡ i ∷ k ∷ 0 ∷ 0 ∷ 0 ∷ 0 ∷ 0 ∷ 0 ∷ [] }
 {
     Exp {

@@ -39,6 +39,18 @@ pub fn over<F: Field>(field: &F, a: F::Elem, b: F::Elem) -> Result<F::Elem, Rang
     }
 }
 
+/// The whole number k.
+pub(crate) fn number<R: Ring>(ring: &R, k: u8) -> R::Elem
+    requires { R.is_ring ring.now }
+    ensures elem { (R.meaning ring.now).is_elem result }
+    ensures value { let m = R.meaning ring.now in m.value result ≡ whole m.scalars k }
+{
+    ring.inject(Frac {
+        num: i128::from(k),
+        den: 1,
+    })
+}
+
 /// k times b.
 ///
 /// Errors: `Range` only where the product has height 2^120 or more.
@@ -49,11 +61,7 @@ pub fn multiple<R: Ring>(ring: &R, k: u8, b: R::Elem) -> Result<R::Elem, Range>
     ensures value { IfOk result (λ x. let m = R.meaning ring.now in m.value x ≡ m.scalars.ops.mul (whole m.scalars k) (m.value b)) }
     ensures range { OnRange result (let m = R.meaning ring.now in AnyHigh 0 m.scalars (product (whole m.scalars k) (m.value b) ∷ [])) }
 {
-    let whole = ring.inject(Frac {
-        num: i128::from(k),
-        den: 1,
-    });
-    let product = ring.mul(whole, b)?;
+    let product = ring.mul(number(ring, k), b)?;
     Ok(product)
 }
 

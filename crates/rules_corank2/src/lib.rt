@@ -5,9 +5,12 @@ mod extend;
 mod finish_base;
 mod finish_choice;
 mod finish_graded;
+mod finish_jets;
 mod finish_kills;
 mod finish_moves;
+mod finish_puts;
 mod finish_state;
+mod finish_tail;
 mod pattern;
 
 pub use extend::extend2;
