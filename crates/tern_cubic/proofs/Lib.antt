@@ -9,3 +9,10 @@ mod KernelLemmas
 mod CubicJets
 mod Multiples
 mod RowLemmas
+pub mod LinearMoves
+pub mod Inverses3
+pub mod MovingLemmas
+pub mod SteppingLemmas
+pub mod ReachingLemmas
+pub mod ConeLemmas
+pub mod MatrixEntries

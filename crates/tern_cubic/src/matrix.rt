@@ -261,7 +261,7 @@ pub(crate) fn unit<R: Ring>(ring: &R) -> Matrix<R::Elem>
 }
 
 /// The given row where o = i, and else row o of the identity matrix.
-fn row_or_unit<R: Ring>(ring: &R, o: usize, i: usize, row: [R::Elem; 3]) -> [R::Elem; 3]
+pub(crate) fn row_or_unit<R: Ring>(ring: &R, o: usize, i: usize, row: [R::Elem; 3]) -> [R::Elem; 3]
     requires { R.is_ring ring.now }
     ensures { let m = R.meaning ring.now in (w : List (R.Value ring.now)) → IsRow m w row → IsRow m (if o == i then w else unit_row_of m.scalars o) result }
 {

@@ -22,7 +22,7 @@ use mono_exp::Exp;
 use ring_law::{Field, Frac, Range, Ring};
 
 /// The coefficient of x^i*y^j*z^k.
-fn coefficient<R: Ring>(ring: &R, f: &JetOf<R>, i: u8, j: u8, k: u8) -> R::Elem
+pub(crate) fn coefficient<R: Ring>(ring: &R, f: &JetOf<R>, i: u8, j: u8, k: u8) -> R::Elem
     requires ring { R.is_ring ring.now }
     requires jet { IsJetIn (R.meaning ring.now) 3 f.now }
     ensures elem { (R.meaning ring.now).is_elem result }
