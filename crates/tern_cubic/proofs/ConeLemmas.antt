@@ -1,26 +1,24 @@
 -- Cubics in fewer variables: their shapes and the matrices of their lines.
-use Rattle.std.proofs.Common.{◌≡◌, ◌≢◌, ℕ, Bool, true, false, cond, inl, inr, ◌⊎◌, flat_map, Option, Some, None, List, [], ◌∷◌, ◌++◌, refl, sym, ap, ap₂, subst, ◌∙◌}
+use Rattle.std.proofs.Common.{◌≡◌, ◌≢◌, ℕ, Bool, true, false, cond, inl, inr, ◌⊎◌, flat_map, Some, None, List, [], ◌∷◌, ◌++◌, sym, subst, ◌∙◌}
 use Rattle.ring_theory.specs.Height.{rational_scalars}
 use Rattle.ring_theory.specs.Rational.{Rational, rational_ops}
 use Rattle.ring_theory.specs.Scalars.{Scalars}
 use Rattle.ring_theory.proofs.RationalLaws.{rational_scalar_laws}
-use Rattle.ring_law.specs.Fraction.{frac_value, rational_meaning}
+use Rattle.ring_law.specs.Fraction.{rational_meaning}
 use Rattle.ring_law.specs.declared.fraction.Frac.{Frac}
 use Rattle.poly_law.specs.Polynomials.{Polynomial}
-use Rattle.lin_row.specs.Lines.{EachOf}
 use Rattle.lin_row.specs.Plain.{Among}
-use Rattle.coord_change.specs.declared.change.Change.{Change}
 use Rattle.move_law.specs.Work as work
 use Rattle.move_law.specs.Work.{Work, IsWorkHigh}
-use Rattle.move_law.specs.Shapes.{CubicShape, zero_cubic, cube, double, distinct, nth, are_zero, cubic_hessian, cubic_test, cubic_shape, power_line_work, over_work, over_multiple_work, cubic_work}
+use Rattle.move_law.specs.Shapes.{nth, are_zero, cubic_hessian, cubic_test, cubic_shape, power_line_work, over_work, over_multiple_work, cubic_work}
 use Rattle.ternary_law.specs.Matrices.{Matrix, places, matrix_product, linear_move, moved}
 use Rattle.ternary_law.specs.Pairs.{line_matrix}
 use Rattle.ternary_law.specs.Steps.{axis_matrix, last_place}
-use Rattle.ternary_law.specs.Routes.{Step, matrix_by, divisors, work_after, work_by, IsPassable, AreStepsHigh}
+use Rattle.ternary_law.specs.Routes.{work_after, AreStepsHigh}
 use Rattle.ternary_law.specs.Rules.{binary_part, repeated_line, cone_section, line_step, repeated_steps}
 use Rattle.ternary_law.specs.Triangle.{is_distinct}
 use Rattle.tern_cubic.specs.declared.moving.Moving.{Moving}
-use Rattle.tern_cubic.specs.Moving.{IsSingular, IsMoving, AfterMatrix, beginning_work, advancing_work}
+use Rattle.tern_cubic.specs.Moving.{IsSingular, IsMoving, beginning_work, advancing_work}
 use Rattle.tern_cubic.specs.Reaching.{IsRepeatedMove}
 use Rattle.ring_theory.specs.Scalars.{Meaning}
 use Rattle.move_law.specs.Shapes.{vertical, slope}

@@ -1,12 +1,9 @@
 -- Matrices of three rows as functions of two places: which have an inverse.
-use Rattle.std.proofs.Common.{◌≡◌, ◌≢◌, ℕ, zero, suc, ◌+◌, ◌<◌, Bool, true, false, List, [], ◌∷◌, map, get_or, refl, sym, ap, ap₂, subst, ◌∙◌, arith}
+use Rattle.std.proofs.Common.{◌≡◌, ◌≢◌, ℕ, zero, suc, ◌<◌, [], ◌∷◌, map, get_or, refl, sym, ap, ◌∙◌, arith}
 use Rattle.ring_theory.specs.Ring.{RingOps, IsCommRing}
-use Rattle.ring_theory.specs.Scalars.{Scalars, ScalarLaws, Meaning, HasInverses}
+use Rattle.ring_theory.specs.Scalars.{Scalars, ScalarLaws, HasInverses}
 use Rattle.ring_theory.proofs.RingReify.{by_ring, reify}
 use Rattle.poly_law.specs.Sums.{sum_to, unit_at}
-use Rattle.poly_law.specs.Exps.{variable}
-use Rattle.poly_law.specs.ExpList.{exps}
-use Rattle.poly_law.specs.Poly.{coefficient, IsInvertible}
 use Rattle.poly_law.proofs.Sums
 use Rattle.poly_law.proofs.Matrix
 use Rattle.coord_change.specs.Inverses.{image_at}

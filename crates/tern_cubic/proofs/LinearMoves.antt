@@ -1,5 +1,5 @@
 -- Linear moves of three variables by their matrices: their composites, their inverses, and matrices that have none.
-use Rattle.std.proofs.Common.{◌≡◌, ◌≢◌, ℕ, zero, suc, ◌+◌, ◌<◌, ◌≤◌, Bool, true, false, cond, not, if◌then◌else◌, List, [], ◌∷◌, map, filter, get_or, refl, sym, ap, ap₂, subst, ◌∙◌, arith}
+use Rattle.std.proofs.Common.{◌≡◌, ℕ, zero, suc, ◌<◌, ◌≤◌, Bool, true, false, cond, not, List, [], ◌∷◌, map, filter, get_or, refl, sym, ap, ◌∙◌, arith}
 use Rattle.ring_theory.specs.Ring.{RingOps, IsCommRing}
 use Rattle.ring_theory.specs.Scalars.{Scalars, ScalarLaws}
 use Rattle.ring_theory.proofs.RingReify.{by_ring, reify}
@@ -7,7 +7,7 @@ use Rattle.ring_theory.proofs.ValueSet.{values_are_set}
 use Rattle.poly_law.specs.Exps.{variable, degree, same}
 use Rattle.poly_law.specs.ExpList.{ExpList, exps}
 use Rattle.poly_law.specs.Poly.{coefficient, cut}
-use Rattle.poly_law.specs.Polynomials.{Polynomial, SameIn, substitute, coefficient_in}
+use Rattle.poly_law.specs.Polynomials.{Polynomial, SameIn, substitute}
 use Rattle.poly_law.specs.Sorted.{IsRising, HasNoZero}
 use Rattle.poly_law.proofs.ExpLists.{exps_are}
 use Rattle.poly_law.proofs.Change
@@ -18,9 +18,9 @@ use Rattle.mono_exp.proofs.Lists.{Each}
 use Rattle.jet_law.specs.Canonical.{monomial_in, jet}
 use Rattle.germ_law.proofs.Canonical
 use Rattle.coord_change.specs.Linear.{linear_form}
-use Rattle.coord_change.specs.Moves.{Move, put, linear_part}
+use Rattle.coord_change.specs.Moves.{put, linear_part}
 use Rattle.coord_change.specs.Carries.{carry, compose}
-use Rattle.ternary_law.specs.Matrices.{Matrix, places, entry, matrix_of, matrix_product, form_of_row, linear_move}
+use Rattle.ternary_law.specs.Matrices.{Matrix, places, entry, matrix_product, form_of_row, linear_move}
 
 -- x + y + z, as the sum of a list
 abbrev pub three : {V : Type 0} → RingOps V → V → V → V → V

@@ -1,26 +1,23 @@
 -- Changes of the program as linear moves of matrices.
-use Rattle.std.proofs.Common.{◌≡◌, ◌≢◌, ℕ, zero, suc, ◌+◌, ◌<◌, ◌≤◌, inl, inr, Option, Some, None, List, [], ◌∷◌, map, length, get_or, refl, sym, ap, ap₂, subst, ◌∙◌, arith}
+use Rattle.std.proofs.Common.{◌≡◌, ℕ, ◌+◌, ◌<◌, inl, inr, List, [], map, length, get_or, sym, ap, ap₂, subst, ◌∙◌, arith}
 use Rattle.std.specs.List.{All}
 use Rattle.std.proofs.lemmas.List.{get_or-map, length-map, same_lists}
 use Rattle.ring_theory.specs.Scalars.{Scalars, ScalarLaws, Meaning, HasInverses}
-use Rattle.poly_law.specs.Sums.{sum_to, unit_at}
 use Rattle.poly_law.specs.Exps.{variable}
 use Rattle.poly_law.specs.ExpList.{exps}
 use Rattle.poly_law.specs.Poly.{coefficient, IsInvertible}
 use Rattle.poly_law.specs.Polynomials.{Polynomial, SameIn}
 use Rattle.poly_law.proofs.Sums
-use Rattle.lin_row.specs.Plain.{Among}
 use Rattle.jet_law.specs.Terms.{poly_of}
-use Rattle.jet_law.specs.Canonical.{jet}
 use Rattle.jet_poly.specs.JetTerms.{JetTerms, IsRising}
 use Rattle.mono_exp.specs.declared.exponent.Exp.{Exp}
 use Rattle.jet_subst.proofs.PowerLemmas.{any_default, before_or_last}
 use Rattle.jet_subst.specs.Parts.{IsPart, jet_at, part_of}
 use Rattle.coord_change.specs.declared.change.Change.{Change}
 use Rattle.coord_change.specs.Changes.{IsChange, IsCompositionHigh, entry_of}
-use Rattle.coord_change.specs.Inverses.{image_at, IsInKernel, InverseIsHigh}
+use Rattle.coord_change.specs.Inverses.{IsInKernel, InverseIsHigh}
 use Rattle.coord_change.specs.Linear.{linear_form}
-use Rattle.coord_change.specs.Moves.{Move, move_from, put, linear_part}
+use Rattle.coord_change.specs.Moves.{Move, move_from, linear_part}
 use Rattle.coord_change.specs.Carries.{carry, compose}
 use Rattle.coord_change.specs.CarryHeights.{IsCarryHigh, IsComposeHigh}
 use Rattle.coord_change.specs.MoveJets.{IsJetFor, IsMoveExactly}
@@ -29,8 +26,7 @@ use Rattle.coord_change.proofs.CompositeLemmas
 use Rattle.coord_change.proofs.InverseLemmas
 use Rattle.move_law.specs.Work as work
 use Rattle.move_law.specs.Work.{IsWorkHigh}
-use Rattle.ternary_law.specs.Matrices.{Matrix, places, entry, matrix_of, matrix_product, form_of_row, linear_move, moved, AreInverse}
-use Rattle.tern_cubic.specs.declared.moving.Moving.{Moving}
+use Rattle.ternary_law.specs.Matrices.{Matrix, places, entry, matrix_product, form_of_row, linear_move, moved, AreInverse}
 use Rattle.tern_cubic.specs.Moving.{IsSingular, AreEntries, IsMoving}
 use Rattle.tern_cubic.specs.Moving as moving
 use Rattle.tern_cubic.proofs.LinearMoves

@@ -1,5 +1,5 @@
 -- Moves over the rational numbers, by their first matrix and the steps after it.
-use Rattle.std.proofs.Common.{◌≡◌, ◌≢◌, ℕ, zero, suc, ◌+◌, ◌<◌, inl, inr, flat_map, Option, Some, None, Result, Ok, Err, List, [], ◌∷◌, ◌++◌, map, length, get_or, refl, sym, ap, ap₂, subst, ◌∙◌, arith}
+use Rattle.std.proofs.Common.{◌≡◌, ◌≢◌, ℕ, suc, ◌<◌, inl, inr, flat_map, Option, Some, None, Result, Ok, Err, List, [], ◌∷◌, ◌++◌, map, length, get_or, refl, sym, ap, ap₂, ◌∙◌, arith}
 use Rattle.std.specs.List.{slice_get}
 use Rattle.std.proofs.lemmas.List.{get_or-map}
 use Rattle.std.proofs.lemmas.Option.{get_or_from_slice_get}
@@ -22,14 +22,13 @@ use Rattle.move_law.specs.Work.{Work, IsWorkHigh}
 use Rattle.move_law.specs.Shapes.{over_work}
 use Rattle.ternary_law.specs.Steps.{axis_matrix, last_place}
 use Rattle.ternary_law.specs.Rules.{axis_step}
-use Rattle.ternary_law.specs.Matrices.{Matrix, places, linear_move, moved, AreInverse}
-use Rattle.ternary_law.specs.Cubics.{HasMonomials}
-use Rattle.ternary_law.specs.Routes.{Step, fixed, reached, matrix_after, matrix_by, divisors, work_after, work_by, Reaches, AreStepsHigh}
+use Rattle.ternary_law.specs.Matrices.{Matrix, places, linear_move, moved}
+use Rattle.ternary_law.specs.Routes.{Step, fixed, matrix_after, divisors, work_after, AreStepsHigh}
 use Rattle.tern_cubic.specs.declared.moving.Moving.{Moving}
-use Rattle.tern_cubic.specs.Moving.{IsSingular, IsMoving, AfterSteps, beginning_work}
+use Rattle.tern_cubic.specs.Moving.{AfterSteps, beginning_work}
 use Rattle.tern_cubic.specs.Reaching.{IsReachedBy, IsRationalMove}
 use Rattle.tern_cubic.proofs.MovingLemmas
-use Rattle.tern_cubic.proofs.SteppingLemmas.{among_first, among_last, each_first, each_last, each_both}
+use Rattle.tern_cubic.proofs.SteppingLemmas.{among_first, among_last, each_last, each_both}
 
 -- the monomials of a list of terms, by their exponents
 pub monomials_are : {E V : Type 0} (value : E → V) (ts : List (Exp × E)) → map (λ t. t.0.entries) (poly_of 3 value ts) ≡ map (λ t. exponents 3 t.0.e) ts

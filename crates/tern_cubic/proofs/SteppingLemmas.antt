@@ -1,18 +1,18 @@
 -- Steps one after the other: what the rest does from where the first ones have come.
-use Rattle.std.proofs.Common.{◌≡◌, ◌≢◌, ℕ, zero, suc, ◌+◌, ◌<◌, ◌≤◌, inl, inr, Option, Some, None, List, [], ◌∷◌, ◌++◌, map, length, get_or, drop, refl, sym, ap, ap₂, subst, ◌∙◌, arith}
+use Rattle.std.proofs.Common.{◌≡◌, ◌≢◌, ℕ, zero, suc, ◌+◌, ◌<◌, ◌≤◌, inl, inr, Option, Some, None, List, [], ◌∷◌, ◌++◌, map, length, get_or, drop, refl, ap, subst, ◌∙◌, arith}
 use Rattle.ring_theory.specs.Scalars.{Scalars, ScalarLaws, Meaning}
 use Rattle.poly_law.specs.Polynomials.{Polynomial}
 use Rattle.lin_row.specs.Lines.{EachOf}
 use Rattle.lin_row.specs.Plain.{Among}
 use Rattle.move_law.specs.Work.{Work, IsWorkHigh}
 use Rattle.ternary_law.specs.Matrices.{Matrix, matrix_product, moved}
-use Rattle.ternary_law.specs.Routes.{Step, reached, matrix_after, divisors, work_after}
+use Rattle.ternary_law.specs.Routes.{Step, matrix_after, divisors, work_after}
 use Rattle.std.proofs.Math.Seq.{drop-cons}
 use Rattle.tern_cubic.specs.declared.stepping.Step as program
 use Rattle.tern_cubic.specs.declared.stepping.Step.TheVariants as programs
 use Rattle.tern_cubic.specs.Stepping.{step_of}
 use Rattle.tern_cubic.specs.declared.moving.Moving.{Moving}
-use Rattle.tern_cubic.specs.Moving.{IsSingular, IsMoving, IsUnderWay, AfterMatrix, AfterSteps, advancing_work}
+use Rattle.tern_cubic.specs.Moving.{IsSingular, IsMoving, AfterMatrix, AfterSteps, advancing_work}
 use Rattle.tern_cubic.proofs.Inverses3
 
 -- ---- lists

@@ -9,7 +9,7 @@ use Rattle.coord_change.specs.Changes.{entry_of}
 use Rattle.coord_change.specs.MoveJets.{IsJetFor, IsMoveExactly}
 use Rattle.move_law.specs.Work as work
 use Rattle.move_law.specs.Work.{Work}
-use Rattle.ternary_law.specs.Matrices.{Matrix, entry, matrix_of, matrix_product, unit_matrix, linear_move, moved}
+use Rattle.ternary_law.specs.Matrices.{Matrix, entry, matrix_of, matrix_product, unit_matrix, linear_move}
 use Rattle.ternary_law.specs.Routes.{Step, reached, matrix_after, divisors}
 use Rattle.tern_cubic.specs.declared.moving.Moving.{Moving}
 

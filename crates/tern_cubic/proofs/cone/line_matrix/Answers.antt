@@ -1,4 +1,3 @@
-use Rattle.std.proofs.Common.{◌≡◌, ◌≢◌, ℕ, ◌++◌, true, false, List, [], ◌∷◌, All, map, length, get_or, refl, sym, ap, ap₂, subst, ◌∙◌, inl, inr, Option, Some, None, arith, rules}
 use Rattle.ternary_law.specs.Matrices.{two_in_row}
 use Rattle.tern_cubic.proofs.MatrixRows.{two_row_is}
 use Rattle.tern_cubic.proofs.ConeLemmas.{sloped_matrix}

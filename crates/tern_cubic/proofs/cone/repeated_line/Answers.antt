@@ -1,4 +1,4 @@
-use Rattle.std.proofs.Common.{◌≡◌, ◌≢◌, ℕ, ◌++◌, true, false, List, [], ◌∷◌, All, map, length, get_or, refl, sym, ap, ap₂, subst, ◌∙◌, inl, inr, Option, Some, None, arith, rules}
+use Rattle.std.proofs.Common.{subst}
 use Rattle.ring_law.proofs.Exits.{handed_on}
 use Rattle.ring_theory.specs.Height.{rational_scalars}
 use Rattle.lin_row.specs.Plain.{Among}

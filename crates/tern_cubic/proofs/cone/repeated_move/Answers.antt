@@ -1,10 +1,8 @@
-use Rattle.std.proofs.Common.{◌≡◌, ◌≢◌, ℕ, ◌++◌, true, false, List, [], ◌∷◌, All, map, length, get_or, refl, sym, ap, ap₂, subst, ◌∙◌, inl, inr, Option, Some, None, arith, rules}
+use Rattle.std.proofs.Common.{◌≡◌, true, map, refl, sym, ap, subst, ◌∙◌, rules}
 use Rattle.ring_theory.specs.Height.{rational_scalars}
-use Rattle.ring_theory.specs.Rational.{rational_ops}
 use Rattle.ring_law.specs.Fraction.{frac_value, rational_meaning}
 use Rattle.ring_law.proofs.Exits.{fault_handed_on, faulted}
 use Rattle.jet_law.specs.Terms.{poly_of}
-use Rattle.jacobian_row.specs.Rows.{IsJetIn}
 use Rattle.move_law.specs.Shapes.{cubic_shape, cubic_work}
 use Rattle.lin_row.specs.Plain.{Among}
 use Rattle.move_law.specs.Work.{IsWorkHigh}
@@ -13,7 +11,6 @@ use Rattle.ternary_law.specs.Pairs.{line_matrix}
 use Rattle.ternary_law.specs.Steps.{axis_matrix}
 use Rattle.ternary_law.specs.Rules.{binary_part, repeated_line}
 use Rattle.ternary_law.specs.Triangle.{is_distinct}
-use Rattle.bin_forms.specs.Lines.{line_value}
 use Rattle.tern_cubic.specs.Matrices.{IsMatrix, vector_of}
 use Rattle.tern_cubic.specs.Moving.{IsMoving, IsUnderWay, IsSingular}
 use Rattle.tern_cubic.proofs.ConeLemmas

@@ -1,4 +1,4 @@
-use Rattle.std.proofs.Common.{◌≡◌, ◌≢◌, ℕ, zero, suc, ◌+◌, ◌<◌, ◌≤◌, ◌++◌, List, [], ◌∷◌, All, map, length, get_or, drop, refl, sym, ap, ap₂, subst, ◌∙◌, inl, inr, Some, None, arith, rules}
+use Rattle.std.proofs.Common.{sym, ◌∙◌, inl, inr}
 use Rattle.ring_law.proofs.Exits.{fault_handed_on}
 use Rattle.coord_change.specs.MoveJets.{IsMoveExactly}
 use Rattle.ternary_law.specs.Matrices.{linear_move}

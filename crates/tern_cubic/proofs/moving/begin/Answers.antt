@@ -1,9 +1,8 @@
-use Rattle.std.proofs.Common.{◌≡◌, ◌≢◌, ℕ, zero, suc, ◌+◌, ◌<◌, ◌≤◌, ◌++◌, List, [], ◌∷◌, All, map, length, get_or, drop, refl, sym, ap, ap₂, subst, ◌∙◌, inl, inr, Some, None, arith, rules}
+use Rattle.std.proofs.Common.{refl, sym, ◌∙◌, inl, inr}
 use Rattle.ring_law.proofs.Exits.{fault_handed_on}
 use Rattle.jet_law.specs.Terms.{poly_of}
 use Rattle.coord_change.specs.MoveJets.{IsMoveExactly}
 use Rattle.ternary_law.specs.Matrices.{linear_move}
-use Rattle.tern_cubic.specs.Moving.{IsChangeBy}
 use Rattle.tern_cubic.proofs.MovingLemmas
 use Rattle.tern_cubic.proofs.moving.begin.Goals as goal
 

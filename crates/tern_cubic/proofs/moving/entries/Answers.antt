@@ -1,4 +1,3 @@
-use Rattle.std.proofs.Common.{[], get_or, arith}
 use Rattle.tern_cubic.proofs.MatrixEntries.{are_entries}
 use Rattle.tern_cubic.proofs.moving.entries.Goals as goal
 

@@ -1,4 +1,4 @@
-use Rattle.std.proofs.Common.{◌≡◌, ◌∷◌, ◌++◌, ap₂, sym, ◌∙◌}
+use Rattle.std.proofs.Common.{◌++◌, ap₂, sym}
 use Rattle.tern_cubic.proofs.MatrixEntries.{three_of}
 use Rattle.tern_cubic.proofs.moving.joined.Goals as goal
 

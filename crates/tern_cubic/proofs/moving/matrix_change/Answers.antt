@@ -1,4 +1,4 @@
-use Rattle.std.proofs.Common.{◌≡◌, ◌≢◌, ℕ, zero, suc, ◌+◌, ◌<◌, ◌≤◌, ◌++◌, List, [], ◌∷◌, All, map, length, get_or, drop, refl, sym, ap, ap₂, subst, ◌∙◌, inl, inr, Some, None, arith, rules}
+use Rattle.std.proofs.Common.{List, All, refl, subst, arith}
 use Rattle.jet_poly.specs.JetTerms.{JetTerms, IsRising}
 use Rattle.tern_cubic.proofs.MovingLemmas
 use Rattle.tern_cubic.proofs.MovingLemmas.{rising_more}

@@ -1,10 +1,9 @@
-use Rattle.std.proofs.Common.{◌≡◌, ◌≢◌, ℕ, ◌++◌, true, false, List, [], ◌∷◌, All, map, length, get_or, refl, sym, ap, ap₂, subst, ◌∙◌, inl, inr, Option, Some, None, arith, rules}
+use Rattle.std.proofs.Common.{[], ◌∷◌}
 use Rattle.ring_theory.specs.Height.{rational_scalars}
-use Rattle.ring_theory.specs.Rational.{rational_ops}
 use Rattle.ring_law.specs.Fraction.{frac_value, rational_meaning}
 use Rattle.ring_law.proofs.Exits.{faulted_by}
 use Rattle.jet_law.specs.Terms.{poly_of}
-use Rattle.ternary_law.specs.Steps.{axis_matrix, last_place}
+use Rattle.ternary_law.specs.Steps.{axis_matrix}
 use Rattle.ternary_law.specs.Rules.{cusp_steps}
 use Rattle.ternary_law.specs.Shapes.{x3, yz2}
 use Rattle.tern_cubic.specs.Matrices.{vector_of}

@@ -1,6 +1,5 @@
-use Rattle.std.proofs.Common.{◌≡◌, ℕ, ◌<◌, true, false, [], map, length, get_or, below_more, sym, ap, subst, refl, ◌∙◌, arith}
+use Rattle.std.proofs.Common.{◌≡◌, ◌<◌, true, false, [], map, length, get_or, below_more, sym, ap, refl, ◌∙◌, arith}
 use Rattle.std.proofs.lemmas.List.{length-map}
-use Rattle.std.specs.Bool.{IsTrue}
 use Rattle.mono_exp.specs.Exponents.{exponents}
 use Rattle.tern_cubic.proofs.ReachingLemmas.{same_exponents, exponents_at}
 use Rattle.tern_cubic.proofs.reaching.has_monomials.Goals as goal

@@ -1,4 +1,4 @@
-use Rattle.std.proofs.Common.{◌≡◌, ◌≢◌, ℕ, ◌++◌, true, false, List, [], ◌∷◌, All, map, length, get_or, refl, sym, ap, ap₂, subst, ◌∙◌, inl, inr, Option, Some, None, arith, rules}
+use Rattle.std.proofs.Common.{◌≡◌, true, false, map, sym, ◌∙◌, Some, None}
 use Rattle.ring_theory.specs.Height.{rational_scalars}
 use Rattle.ring_law.specs.Fraction.{frac_value, rational_meaning}
 use Rattle.ring_law.proofs.Exits.{fault_handed_on}

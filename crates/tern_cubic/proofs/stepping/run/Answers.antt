@@ -1,4 +1,4 @@
-use Rattle.std.proofs.Common.{◌≡◌, ◌≢◌, ℕ, zero, suc, ◌+◌, ◌<◌, ◌≤◌, ◌++◌, true, false, List, [], ◌∷◌, All, map, length, get_or, drop, refl, sym, ap, ap₂, subst, ◌∙◌, inl, inr, Some, None, arith, rules}
+use Rattle.std.proofs.Common.{◌≡◌, ◌≢◌, ◌+◌, true, false, map, get_or, drop, refl, sym, subst, ◌∙◌, rules}
 use Rattle.ring_theory.specs.Height.{rational_scalars}
 use Rattle.ring_theory.specs.Rational.{rational_ops}
 use Rattle.ring_theory.proofs.RationalLaws.{rational_scalar_laws}
@@ -7,7 +7,6 @@ use Rattle.ring_law.proofs.Exits.{fault_handed_on, faulted}
 use Rattle.lin_row.specs.Lines.{EachOf}
 use Rattle.lin_row.specs.Plain.{Among}
 use Rattle.move_law.specs.Work.{IsWorkHigh}
-use Rattle.ternary_law.specs.Matrices.{Matrix, moved, matrix_product}
 use Rattle.tern_cubic.specs.declared.stepping.Step.TheVariants as programs
 use Rattle.tern_cubic.specs.Matrices.{IsMatrix}
 use Rattle.jacobian_row.specs.Rows.{IsJetIn}
