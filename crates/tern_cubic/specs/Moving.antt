@@ -24,7 +24,8 @@ module _ {V : Type 0} (s : Scalars V) where
 
   -- the same after the move of the matrix v
   abbrev pub advancing_work : Matrix V → Matrix V → Polynomial 3 V → List (Work 3 V)
-  advancing_work v a g = work.inverted (linear_move 3 s a) ∷ work.composed 16 (linear_move 3 s v) (linear_move 3 s a) ∷ work.carried 3 (linear_move 3 s a) g ∷ []
+  advancing_work v a g =
+      work.inverted (linear_move 3 s a) ∷ work.composed 16 (linear_move 3 s v) (linear_move 3 s a) ∷ work.carried 3 (linear_move 3 s a) g ∷ []
 
 module _ {E V : Type 0} (m : Meaning E V) where
   -- nine elements, row after row, are valid and stand for the matrix w
@@ -53,7 +54,8 @@ module _ {E V : Type 0} (m : Meaning E V) where
   AfterMatrix a g (Some w) = IsMoving a g w
   AfterMatrix a g None = IsSingular m.scalars a
 
-  -- the move after some steps, none of whose divisors is zero, from the matrix a and the cubic g on; or none, where a divisor is zero or the matrix of the whole is singular
+  -- the move after some steps, none of whose divisors is zero, from the matrix a and the cubic g on; or none, where a divisor is zero or the matrix of the
+  -- whole is singular
   abbrev pub AfterSteps : List (Step V) → Matrix V → Polynomial 3 V → Option (Moving E) → Type 0
   AfterSteps steps a g (Some w) =
       IsMoving (matrix_after m.scalars a steps g) (reached m.scalars steps g) w × EachOf (λ d. d ≢ m.scalars.ops.zero) (divisors m.scalars steps g)

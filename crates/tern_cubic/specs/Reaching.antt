@@ -38,10 +38,11 @@ module _ (g : Polynomial 3 Rational) (steps : List (Step Rational)) (monomials :
       IsMoveExactly rational_meaning 3 16 (linear_move 3 q (matrix_by q steps g)) c × Reaches g steps monomials (inverse_matrix rational_meaning c)
   IsRationalMove None = (inverse : Matrix Rational) → Reaches g steps monomials inverse → ⊥
 
--- the move of a cubic in fewer variables with a repeated line, by the vector v, with the inverse of its matrix; or none, where the lines are three different ones or there is
--- no such move
+-- the move of a cubic in fewer variables with a repeated line, by the vector v, with the inverse of its matrix; or none, where the lines are three
+-- different ones or there is no such move
 abbrev pub IsRepeatedMove : Polynomial 3 Rational → (ℕ → Rational) → Option (Change Frac) → Type 0
 IsRepeatedMove g v (Some c) =
     (is_distinct (cubic_shape q (cone_section g v)) ≡ false)
-    × IsMoveExactly rational_meaning 3 16 (linear_move 3 q (matrix_by q (repeated_steps g v) g)) c × IsPassable g (repeated_steps g v) (inverse_matrix rational_meaning c)
+    × IsMoveExactly rational_meaning 3 16 (linear_move 3 q (matrix_by q (repeated_steps g v) g)) c
+    × IsPassable g (repeated_steps g v) (inverse_matrix rational_meaning c)
 IsRepeatedMove g v None = is_distinct (cubic_shape q (cone_section g v)) ≡ false → (inverse : Matrix Rational) → IsPassable g (repeated_steps g v) inverse → ⊥

@@ -49,7 +49,8 @@ fn binary_part(f: &Jet<Frac>) -> [Frac; 4]
 /// Errors: `Range` only where an operation of its shape has height 2^120 or more.
 fn repeated_line(f: &Jet<Frac>) -> Result<Option<Line<Frac>>, Range>
     requires { IsJetIn rational_meaning 3 f.now }
-    ensures line { let t = cubic_shape_of rational_scalars (binary_part_of (poly_of 3 frac_value f.now.terms)) in IfOk result (λ o. MatchOption o (is_distinct t ≡ true)
+    ensures line { let t = cubic_shape_of rational_scalars (binary_part_of (poly_of 3 frac_value f.now.terms)) in
+        IfOk result (λ o. MatchOption o (is_distinct t ≡ true)
         (λ l. (is_distinct t ≡ false) × IsFrac l.lambda × (line_value frac_value l ≡ repeated_line_of t))) }
     ensures range { OnRange result (Among (IsWorkHigh 3 rational_scalars) (cubic_work rational_scalars 3 (binary_part_of (poly_of 3 frac_value f.now.terms)))) }
 {

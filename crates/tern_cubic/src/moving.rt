@@ -62,7 +62,8 @@ fn matrix_change<F: Field>(
     requires field { F.is_ring field.now }
     requires matrix { let m = F.meaning field.now in IsMatrix m (map (map m.value) a.now) a.now }
     ensures change { let m = F.meaning field.now in (w : MatrixOf (F.Value field.now)) → IsMatrix m w a.now → IfOk result (IsChangeBy m w) }
-    ensures range { let m = F.meaning field.now in (w : MatrixOf (F.Value field.now)) → IsMatrix m w a.now → OnFault result (IsWorkHigh 3 m.scalars (inverted (linear_move 3 m.scalars w))) }
+    ensures range { let m = F.meaning field.now in (w : MatrixOf (F.Value field.now)) → IsMatrix m w a.now
+        → OnFault result (IsWorkHigh 3 m.scalars (inverted (linear_move 3 m.scalars w))) }
 {
     let flat = entries(field, a);
     match linear(alloc, field, 3, ORDER, &flat) {
@@ -117,10 +118,10 @@ pub(crate) fn advance<F: Field>(
     requires field { F.is_ring field.now }
     requires under_way { IsUnderWay (F.meaning field.now) way.now }
     requires matrix { let m = F.meaning field.now in IsMatrix m (map (map m.value) a.now) a.now }
-    ensures way { let m = F.meaning field.now in (v w : MatrixOf (F.Value field.now)) (g : Polynomial 3 (F.Value field.now)) → IsMoving m v g way.now → IsMatrix m w a.now
-        → IfOk result (AfterMatrix m (matrix_product m.scalars v w) (moved m.scalars w g)) }
-    ensures range { let m = F.meaning field.now in (v w : MatrixOf (F.Value field.now)) (g : Polynomial 3 (F.Value field.now)) → IsMoving m v g way.now → IsMatrix m w a.now
-        → OnFault result (Among (IsWorkHigh 3 m.scalars) (advancing_work m.scalars v w g)) }
+    ensures way { let m = F.meaning field.now in (v w : MatrixOf (F.Value field.now)) (g : Polynomial 3 (F.Value field.now)) → IsMoving m v g way.now
+        → IsMatrix m w a.now → IfOk result (AfterMatrix m (matrix_product m.scalars v w) (moved m.scalars w g)) }
+    ensures range { let m = F.meaning field.now in (v w : MatrixOf (F.Value field.now)) (g : Polynomial 3 (F.Value field.now)) → IsMoving m v g way.now
+        → IsMatrix m w a.now → OnFault result (Among (IsWorkHigh 3 m.scalars) (advancing_work m.scalars v w g)) }
 {
     let Some(next) = matrix_change(alloc, field, a)? else {
         return Ok(None);

@@ -92,7 +92,8 @@ pub fn cusp_move(alloc: Global, f: &Jet<Frac>, v: &[Frac; 3]) -> Result<Option<C
     requires jet { IsJetIn rational_meaning 3 f.now }
     requires elems { All IsFrac v.now }
     requires nonzero { let w = vector_of rational_meaning v.now in w (last_place_of rational_scalars w) ≢ rational_ops.zero }
-    ensures change { let g = poly_of 3 frac_value f.now.terms in IfOk result (IsRationalMove g (all_cusp_steps g (vector_of rational_meaning v.now)) (x3 ∷ yz2 ∷ [])) }
+    ensures change { let g = poly_of 3 frac_value f.now.terms in
+        IfOk result (IsRationalMove g (all_cusp_steps g (vector_of rational_meaning v.now)) (x3 ∷ yz2 ∷ [])) }
     ensures range { let g = poly_of 3 frac_value f.now.terms in OnFault result (AreStepsHigh g (all_cusp_steps g (vector_of rational_meaning v.now))) }
 {
     let axis = axis_matrix(&Rationals, 1, v)?;

@@ -56,7 +56,8 @@ fn has_term<R: Ring>(ring: &R, f: &JetOf<R>, i: u8, j: u8, k: u8) -> bool
 fn is_possible<R: Ring>(ring: &R, step: Step, f: &JetOf<R>) -> bool
     requires ring { R.is_ring ring.now }
     requires jet { IsJetIn (R.meaning ring.now) 3 f.now }
-    ensures { let m = R.meaning ring.now in IsTrue result ↔ EachOf (λ d. d ≢ m.scalars.ops.zero) ((step_of m.scalars step).divisors (poly_of 3 m.value f.now.terms)) }
+    ensures { let m = R.meaning ring.now in
+        IsTrue result ↔ EachOf (λ d. d ≢ m.scalars.ops.zero) ((step_of m.scalars step).divisors (poly_of 3 m.value f.now.terms)) }
 {
     match step {
         Step::Node | Step::Secant => has_term(ring, f, 1, 1, 1),
@@ -72,9 +73,11 @@ fn is_possible<R: Ring>(ring: &R, step: Step, f: &JetOf<R>) -> bool
 fn step_matrix<F: Field>(field: &F, step: Step, f: &JetOf<F>) -> Result<Matrix<F::Elem>, Range>
     requires field { F.is_ring field.now }
     requires jet { IsJetIn (F.meaning field.now) 3 f.now }
-    requires possible { let m = F.meaning field.now in EachOf (λ d. d ≢ m.scalars.ops.zero) ((step_of m.scalars step).divisors (poly_of 3 m.value f.now.terms)) }
+    requires possible { let m = F.meaning field.now in
+        EachOf (λ d. d ≢ m.scalars.ops.zero) ((step_of m.scalars step).divisors (poly_of 3 m.value f.now.terms)) }
     ensures matrix { IfOk result (let m = F.meaning field.now in IsMatrix m ((step_of m.scalars step).matrix (poly_of 3 m.value f.now.terms))) }
-    ensures range { OnRange result (let m = F.meaning field.now in Among (IsWorkHigh 3 m.scalars) ((step_of m.scalars step).works (poly_of 3 m.value f.now.terms))) }
+    ensures range { OnRange result (let m = F.meaning field.now in
+        Among (IsWorkHigh 3 m.scalars) ((step_of m.scalars step).works (poly_of 3 m.value f.now.terms))) }
 {
     match step {
         Step::Node => node_step(field, f),
