@@ -16,3 +16,5 @@ pub mod SteppingLemmas
 pub mod ReachingLemmas
 pub mod ConeLemmas
 pub mod MatrixEntries
+pub mod PairCases
+pub mod PairingLemmas

@@ -5,3 +5,4 @@ pub mod Matrices
 pub mod Moving
 pub mod Stepping
 pub mod Reaching
+pub mod Pairs
