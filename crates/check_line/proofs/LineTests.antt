@@ -1,5 +1,5 @@
 -- What the reading of a line says of the items that speak of it.
-use Rattle.std.proofs.Common.{◌≡◌, ◌≢◌, ℕ, ◌+◌, ◌≤◌, Bool, true, false, IsTrue, ◌↔◌, List, [], map, length, sym, ap, subst, ◌∙◌, true≢false, arith, eqb-true, eq-eqb}
+use Rattle.std.proofs.Common.{◌≡◌, ℕ, ◌+◌, ◌≤◌, Bool, true, false, IsTrue, ◌↔◌, List, map, length, sym, ap, subst, ◌∙◌, true≢false, arith, eqb-true, eq-eqb}
 use Rattle.std.specs.Prelude.{◌==◌, ◌||◌, ◌&&◌, nat_lt, nat_le}
 use Rattle.std.specs.List.{list_all}
 use Rattle.std.proofs.lemmas.Bool.Decides.{nat_tests}
@@ -8,7 +8,7 @@ use Rattle.line_syntax.specs.Grammar.{has_small_literals}
 use Rattle.line_syntax.proofs.Bools.{and_left, and_right}
 use Rattle.line_syntax.proofs.OneLine.{one_line}
 use Rattle.germ_law.specs.Germ.{IsCritical}
-use Rattle.line_jet.specs.Reads.{IsReadHigh, IsGermOf}
+use Rattle.line_jet.specs.Reads.{IsReadHigh}
 use Rattle.line_germ.specs.Reads.{IsLineGerm, IsSyntaxAt, IsLiteralAt, IsLinearIn}
 use Rattle.line_germ.specs.declared.reading.Germ.{Germ}
 use Rattle.poly_text.specs.declared.name.Name.{Name}

@@ -1,6 +1,7 @@
 //! The germ of the line of a report.
 
 ghost use Rattle.std.specs.Prelude.{◌≤◌, length, IfOk};
+ghost use Rattle.germ_law.specs.Germ.{line_limit};
 ghost use Rattle.check_line.specs.Lines.{reading_limit, IsGermTest};
 
 use line_germ::{Germ, Read, read_line};
@@ -19,7 +20,7 @@ pub enum GermTest {
 /// where the bytes spell no critical line with small numbers, `High` only where reading them forms a
 /// number of height at least 2^120.
 pub fn read_germ(alloc: Global, line: &[u8], order: u8) -> Result<GermTest, NoMemory>
-    requires short { length line.now ≤ 65536 }
+    requires short { length line.now ≤ line_limit }
     requires at_most_16 { order ≤ 16 }
     ensures { IfOk result (IsGermTest line.now (reading_limit order)) }
 {

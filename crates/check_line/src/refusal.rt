@@ -49,7 +49,7 @@ pub fn is_syntax_refusal(
     column: u32,
     what: What,
 ) -> Result<bool, NoMemory>
-    requires { length line.now ≤ 65536 }
+    requires { length line.now ≤ line_limit }
     ensures { IfOk result (λ b. IsTrue b ↔ IsSyntaxAt line.now column what) }
 {
     match read_line(alloc, line, LIMIT) {
@@ -69,7 +69,7 @@ pub fn is_syntax_refusal(
 
 /// True where the first number of the line that is too large begins at this column.
 pub fn is_literal_refusal(alloc: Global, line: &[u8], column: u32) -> Result<bool, NoMemory>
-    requires { length line.now ≤ 65536 }
+    requires { length line.now ≤ line_limit }
     ensures { IfOk result (λ b. IsTrue b ↔ IsLiteralAt line.now column) }
 {
     match read_line(alloc, line, LIMIT) {
@@ -82,28 +82,17 @@ pub fn is_literal_refusal(alloc: Global, line: &[u8], column: u32) -> Result<boo
     }
 }
 
-// True where both are the same.
-fn is_same_name(a: Name, b: Name) -> bool
-    ensures { IsTrue result ↔ (a ≡ b) }
-{
-    a == b
-}
-
 // Whether two names are the same, as the test of an item.
 fn test_name(a: Name, b: Name) -> Tested
     ensures { IsTested (a ≡ b) ⊥ result }
 {
-    if is_same_name(a, b) {
-        Tested::Holds
-    } else {
-        Tested::Fails
-    }
+    if a == b { Tested::Holds } else { Tested::Fails }
 }
 
 /// Whether this is the first variable of the line with a linear coefficient that is not 0: `High` only
 /// where reading the line up to order 3 forms a number of height at least 2^120.
 pub fn test_not_critical(alloc: Global, line: &[u8], variable: Name) -> Result<Tested, NoMemory>
-    requires { length line.now ≤ 65536 }
+    requires { length line.now ≤ line_limit }
     ensures { IfOk result (IsTested (IsLinearIn line.now variable) (IsHighLine line.now refusal_limit)) }
 {
     match read_line(alloc, line, LIMIT) {

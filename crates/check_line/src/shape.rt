@@ -1,6 +1,6 @@
 //! The shape of a carried germ: the names of its line, its sizes and its order.
 
-ghost use Rattle.std.specs.Prelude.{◌≡◌, ◌≤◌, ◌↔◌, ◌&&◌, IsTrue, map};
+ghost use Rattle.std.specs.Prelude.{◌≡◌, ◌≤◌, ◌↔◌, IsTrue, map};
 ghost use Rattle.std.specs.List.{list_all};
 ghost use Rattle.line_syntax.specs.Syntax.{Line, names_of};
 ghost use Rattle.poly_text.specs.Polynomials.{name_text};
@@ -10,25 +10,11 @@ ghost use Rattle.report_law.specs.Items.{IsShape};
 use cert_text::Carried;
 use poly_text::Name;
 
-// True where both are the same.
-fn are_same_names(a: &[Name], b: &[Name]) -> bool
-    ensures { IsTrue result ↔ (a.now ≡ b.now) }
-{
-    a == b
-}
-
 // True where in so many variables the order is at most 12, from five on.
 fn is_small_order(n: usize, order: u8) -> bool
     ensures { IsTrue result ↔ (5 ≤ n → order ≤ 12) }
 {
     n < 5 || order <= 12
-}
-
-// True where both are.
-fn both(a: bool, b: bool) -> bool
-    ensures { result ≡ (a && b) }
-{
-    a && b
 }
 
 /// True where a carried germ has the names of the line, a part for each, a corank of at most their
@@ -38,7 +24,7 @@ pub fn is_shape(names: &[Name], c: &Carried) -> bool
     requires names { IsTrue (list_all is_valid_name names.now) }
     ensures { (l : Line) → map name_text names.now ≡ names_of l → (IsTrue result ↔ IsShape l c.now) }
 {
-    let same = are_same_names(names, c.names.as_slice());
+    let same = names == c.names.as_slice();
     let small = is_small_order(c.names.len(), c.order);
-    both(same, small)
+    same && small
 }

@@ -1,5 +1,5 @@
 -- The germ of the line, or why there is none, by what was read.
-use Rattle.std.proofs.Common.{ℕ, subst}
+use Rattle.std.proofs.Common.{subst}
 use Rattle.report_law.specs.Right.{IsHighLine}
 use Rattle.check_line.specs.Lines.{IsGermOfLine}
 use Rattle.check_line.proofs.LineTests.{germ_of_line, high_line, literal_no_germ, linear_no_germ}
