@@ -2,7 +2,7 @@
 
 ghost use Rattle.std.specs.Prelude.{◌≤◌, IfOk, [], ◌∷◌, length};
 ghost use Rattle.line_syntax.specs.Syntax.{Line};
-ghost use Rattle.germ_law.specs.Germ.{IsCritical};
+ghost use Rattle.germ_law.specs.Germ.{IsCritical, line_limit};
 ghost use Rattle.cert_text.specs.WellFormed.{IsWellFormedCarried};
 ghost use Rattle.report_law.specs.Items.{IsShape};
 ghost use Rattle.check_line.specs.Lines.{reading_limit, IsGermOfLine};
@@ -91,7 +91,7 @@ pub(crate) fn carried_found(
     c: &Carried,
     fits: bool,
 ) -> Result<Found, NoMemory>
-    requires short { length line.now ≤ 65536 }
+    requires short { length line.now ≤ line_limit }
     requires well_formed { IsWellFormedCarried c.now }
     ensures { IfOk result (IsLineFound line.now (λ l. CarriedItem l c.now fits) (IsCarriedHigh line.now c.now) carried_items) }
 {

@@ -2,6 +2,7 @@
 
 ghost use Rattle.std.specs.Prelude.{◌≡◌, ℕ, ◌≤◌, ◌&&◌, IfOk, List, [], ◌∷◌, length};
 ghost use Rattle.line_syntax.specs.Syntax.{Line};
+ghost use Rattle.germ_law.specs.Germ.{line_limit};
 ghost use Rattle.normal_forms.specs.Patterns.{order_of as order_by};
 ghost use Rattle.cert_text.specs.WellFormed.{IsWellFormedCarried, IsWellFormedNamed, IsWellFormedLimit, IsWellFormedUnresolved};
 ghost use Rattle.report_law.specs.Valid.{NamedItem, OutsideItem, LimitItem, UnresolvedItem};
@@ -23,7 +24,7 @@ use std::alloc::Global;
 
 /// What is found of a named report: its corank is at most 3.
 pub(crate) fn named_found(alloc: Global, line: &[u8], r: &Named) -> Result<Found, NoMemory>
-    requires short { length line.now ≤ 65536 }
+    requires short { length line.now ≤ line_limit }
     requires well_formed { IsWellFormedNamed r.now }
     ensures { IfOk result (IsLineFound line.now (λ l. NamedItem line.now l r.now) (IsNamedHigh line.now r.now) named_on) }
 {
@@ -67,7 +68,7 @@ fn pattern_on(r: &Outside) -> Found
 
 /// What is found of an outside report: its order is that of its pattern.
 pub(crate) fn outside_found(alloc: Global, line: &[u8], r: &Outside) -> Result<Found, NoMemory>
-    requires short { length line.now ≤ 65536 }
+    requires short { length line.now ≤ line_limit }
     requires well_formed { IsWellFormedCarried r.now.carried }
     ensures { IfOk result (IsLineFound line.now (λ l. OutsideItem line.now l r.now) (IsOutsideHigh line.now r.now) outside_on) }
 {
@@ -102,7 +103,7 @@ fn both(a: bool, b: bool) -> bool
 
 /// What is found of a limit report: its corank is at most 3, and its order at least 3.
 pub(crate) fn limit_found(alloc: Global, line: &[u8], r: &Limit) -> Result<Found, NoMemory>
-    requires short { length line.now ≤ 65536 }
+    requires short { length line.now ≤ line_limit }
     requires well_formed { IsWellFormedLimit r.now }
     ensures { IfOk result (IsLineFound line.now (λ l. LimitItem line.now l r.now) (IsLimitHigh line.now r.now) limit_on) }
 {
@@ -134,7 +135,7 @@ pub(crate) fn unresolved_found(
     line: &[u8],
     r: &Unresolved,
 ) -> Result<Found, NoMemory>
-    requires short { length line.now ≤ 65536 }
+    requires short { length line.now ≤ line_limit }
     requires well_formed { IsWellFormedUnresolved r.now }
     ensures { IfOk result (IsLineFound line.now (λ l. UnresolvedItem line.now l r.now) (IsUnresolvedHigh line.now r.now) unresolved_on) }
 {

@@ -1,6 +1,7 @@
 //! The verdict on a report, item by item.
 
 ghost use Rattle.std.specs.Prelude.{◌≤◌, IfOk, IsTrue, length};
+ghost use Rattle.germ_law.specs.Germ.{line_limit};
 ghost use Rattle.cert_text.specs.WellFormed.{is_valid_name, IsWellFormed, IsWellFormedAnswer, IsWellFormedCarried, IsWellFormedNamed, IsWellFormedLimit, IsWellFormedUnresolved};
 ghost use Rattle.report_law.specs.Verdicts.{IsVerdictOn};
 ghost use Rattle.cert_check.specs.Heights.{IsItemHigh};
@@ -15,7 +16,7 @@ use ring_law::NoMemory;
 use std::alloc::Global;
 
 fn syntax_verdict(alloc: Global, line: &[u8], column: u32, what: What) -> Result<Verdict, NoMemory>
-    requires { length line.now ≤ 65536 }
+    requires { length line.now ≤ line_limit }
     ensures { IfOk result (IsVerdictOn IsItemHigh (Report.Line line.now (Answer.Syntax column what))) }
 {
     match is_syntax_refusal(alloc, line, column, what) {
@@ -25,7 +26,7 @@ fn syntax_verdict(alloc: Global, line: &[u8], column: u32, what: What) -> Result
 }
 
 fn literal_verdict(alloc: Global, line: &[u8], column: u32) -> Result<Verdict, NoMemory>
-    requires { length line.now ≤ 65536 }
+    requires { length line.now ≤ line_limit }
     ensures { IfOk result (IsVerdictOn IsItemHigh (Report.Line line.now (Answer.Literal column))) }
 {
     match is_literal_refusal(alloc, line, column) {
@@ -35,7 +36,7 @@ fn literal_verdict(alloc: Global, line: &[u8], column: u32) -> Result<Verdict, N
 }
 
 fn not_critical_verdict(alloc: Global, line: &[u8], variable: Name) -> Result<Verdict, NoMemory>
-    requires short { length line.now ≤ 65536 }
+    requires short { length line.now ≤ line_limit }
     requires name { IsTrue (is_valid_name variable) }
     ensures { IfOk result (IsVerdictOn IsItemHigh (Report.Line line.now (Answer.NotCritical variable))) }
 {
@@ -46,7 +47,7 @@ fn not_critical_verdict(alloc: Global, line: &[u8], variable: Name) -> Result<Ve
 }
 
 fn named_verdict(alloc: Global, line: &[u8], r: &Named) -> Result<Verdict, NoMemory>
-    requires short { length line.now ≤ 65536 }
+    requires short { length line.now ≤ line_limit }
     requires well_formed { IsWellFormedNamed r.now }
     ensures { IfOk result (IsVerdictOn IsItemHigh (Report.Line line.now (Answer.Named r.now))) }
 {
@@ -57,7 +58,7 @@ fn named_verdict(alloc: Global, line: &[u8], r: &Named) -> Result<Verdict, NoMem
 }
 
 fn outside_verdict(alloc: Global, line: &[u8], r: &Outside) -> Result<Verdict, NoMemory>
-    requires short { length line.now ≤ 65536 }
+    requires short { length line.now ≤ line_limit }
     requires well_formed { IsWellFormedCarried r.now.carried }
     ensures { IfOk result (IsVerdictOn IsItemHigh (Report.Line line.now (Answer.Outside r.now))) }
 {
@@ -68,7 +69,7 @@ fn outside_verdict(alloc: Global, line: &[u8], r: &Outside) -> Result<Verdict, N
 }
 
 fn limit_verdict(alloc: Global, line: &[u8], r: &Limit) -> Result<Verdict, NoMemory>
-    requires short { length line.now ≤ 65536 }
+    requires short { length line.now ≤ line_limit }
     requires well_formed { IsWellFormedLimit r.now }
     ensures { IfOk result (IsVerdictOn IsItemHigh (Report.Line line.now (Answer.Limit r.now))) }
 {
@@ -79,7 +80,7 @@ fn limit_verdict(alloc: Global, line: &[u8], r: &Limit) -> Result<Verdict, NoMem
 }
 
 fn unresolved_verdict(alloc: Global, line: &[u8], r: &Unresolved) -> Result<Verdict, NoMemory>
-    requires short { length line.now ≤ 65536 }
+    requires short { length line.now ≤ line_limit }
     requires well_formed { IsWellFormedUnresolved r.now }
     ensures { IfOk result (IsVerdictOn IsItemHigh (Report.Line line.now (Answer.Unresolved r.now))) }
 {
@@ -91,7 +92,7 @@ fn unresolved_verdict(alloc: Global, line: &[u8], r: &Unresolved) -> Result<Verd
 
 // The verdict on an answer to a line.
 fn answer_verdict(alloc: Global, line: &[u8], answer: &Answer) -> Result<Verdict, NoMemory>
-    requires short { length line.now ≤ 65536 }
+    requires short { length line.now ≤ line_limit }
     requires well_formed { IsWellFormedAnswer answer.now }
     ensures { IfOk result (IsVerdictOn IsItemHigh (Report.Line line.now answer.now)) }
 {
