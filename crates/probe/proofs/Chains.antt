@@ -1,6 +1,11 @@
 -- The chains of a line: at the beginning, with one move more, and at the next order.
-use Rattle.std.proofs.Common.{◌≡◌, ℕ, suc, ◌<◌, ◌≤◌, List, ◌∷◌, [], ◌++◌, refl, sym, subst, ◌∙◌, arith}
+use Rattle.std.proofs.Common.{◌≡◌, ℕ, suc, ◌≤◌, List, ◌∷◌, [], ◌++◌, map, refl, sym, ◌∙◌, arith}
 use Rattle.ring_theory.specs.Scalars.{ScalarLaws, Meaning}
+use Rattle.ring_law.specs.declared.fraction.Frac.{Frac}
+use Rattle.ext_algebra.specs.declared.algebra.Algebra.{Algebra}
+use Rattle.ext_algebra.specs.declared.algebra.Algebra.TheVariants as algebras
+use Rattle.ext_algebra.specs.declared.algebra.Ext.{Ext}
+use Rattle.ext_algebra.specs.Algebra.{algebra_meaning}
 use Rattle.poly_law.specs.Polynomials.{Polynomial, StartsAtIn}
 use Rattle.jet_law.specs.Canonical.{jet}
 use Rattle.jet_poly.specs.JetTerms.{JetTerms, IsRising}
@@ -9,8 +14,10 @@ use Rattle.coord_change.specs.declared.change.Change.{Change}
 use Rattle.coord_change.specs.Changes.{IsChange}
 use Rattle.coord_change.specs.Moves.{Move, move_from}
 use Rattle.coord_change.specs.MoveJets.{IsJetFor, IsMoveExactly}
-use Rattle.coord_change.specs.Chains.{ChainParts, IsChain, IsStanding}
+use Rattle.coord_change.specs.Chains.{ChainParts, IsChain}
 use Rattle.coord_change.proofs.Canonicals.{is_jet_for}
+use Rattle.move_law.specs.Algebras.{lifted, lifted_move}
+use Rattle.chain_lift.specs.Lifted.{IsLiftedChain}
 use Rattle.probe.specs.Chained.{IsChained}
 
 module _ {E V : Type 0} (m : Meaning E V) where
@@ -58,3 +65,14 @@ module _ {E V : Type 0} (m : Meaning E V) where
         let low : s.last ≤ c.order = let e = same_last in omega arith in
         next s.o (s.moves ++ move_from m s.n c ∷ [])
         (made s.n s.last s.o c.order s.germ s.moves (move_from m s.n c) s.is low (record { change = change; variables = variables ∙ sym same_variables; order = refl; parts = refl }))
+
+-- the chain over an algebra by the germ and the moves of one over the rational numbers
+pub lifted_chain : (a : Algebra) (n order : ℕ) (c made : ChainParts (Ext Frac)) → IsChained (algebra_meaning algebras.Rational) n order c → IsLiftedChain a c made → IsChained (algebra_meaning a) n order made
+lifted_chain a n order c made h is_lifted =
+    let s = h.stands in
+    let q = is_lifted s.n s.last s.o s.germ s.moves s.is in
+    record {
+      stands = record { n = s.n; last = s.last; germ = lifted a s.germ; o = s.o; moves = map (lifted_move a) s.moves; is = q };
+      variables = q.germ_is.variables ∙ sym s.is.germ_is.variables ∙ h.variables;
+      last = q.germ_is.order ∙ sym s.is.germ_is.order ∙ h.last;
+    }

@@ -1,3 +1,4 @@
+mod BaseParts
 mod Chains
 mod Constants
 mod Fields

@@ -121,9 +121,9 @@ fn line_of(words: &mut Words) -> Result<ModulusLine, Stop> {
     }
 }
 
-/// Appends the modulus line of the form of a family with given rational coefficients.
-pub(crate) fn put_modulus(alloc: Global, words: &mut Words, out: &mut Vec<u8>) -> Result<(), Stop> {
-    match line_of(words)? {
+/// Appends a modulus line.
+pub(crate) fn put_line(alloc: Global, out: &mut Vec<u8>, line: ModulusLine) -> Result<(), Stop> {
+    match line {
         ModulusLine::J(q) => {
             out.extend_from_slice(b"j ")?;
             Ok(put_fraction(out, q)?)
@@ -135,6 +135,12 @@ pub(crate) fn put_modulus(alloc: Global, words: &mut Words, out: &mut Vec<u8>) -
         ModulusLine::Form => Ok(out.extend_from_slice(b"form")?),
         ModulusLine::None => Ok(out.extend_from_slice(b"none")?),
     }
+}
+
+/// Appends the modulus line of the form of a family with given rational coefficients.
+pub(crate) fn put_modulus(alloc: Global, words: &mut Words, out: &mut Vec<u8>) -> Result<(), Stop> {
+    let line = line_of(words)?;
+    put_line(alloc, out, line)
 }
 
 // Appends the unit values of a form of a family.

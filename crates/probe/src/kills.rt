@@ -3,18 +3,25 @@
 ghost use Rattle.std.specs.Prelude.{◌≡◌, ◌≢◌, ◌<◌, ◌≤◌, ℕ, true, All, IfOk, length, map, get_or};
 ghost use Rattle.kill_law.specs.declared.part.Part.TheVariants as parts;
 ghost use Rattle.kill_law.specs.Table.{row};
+ghost use Rattle.kill_law.specs.Kill.{letters_of};
+ghost use Rattle.jet_poly.specs.Jets.{IsJet, polynomial_of};
 ghost use Rattle.kill_table.specs.Divisors.{HasUnits, dividing_letters, discriminant};
+ghost use Rattle.rules_corank2.specs.Parts.{is_base2 as is_base2_of};
+ghost use Rattle.rules_corank3.specs.Parts.{is_base3 as is_base3_of};
 ghost use Rattle.probe.specs.Over.{IsOver};
 
 use crate::changes::put_change;
 use crate::scalars::Over;
 use crate::words::{Stop, Words, is};
-use coord_change::Change;
+use coord_change::{Change, ChangeOf};
 use ext_algebra::Ext;
+use jet_poly::JetOf;
 use kill_leads::{form, variables};
 use kill_table::{Part, Principal, grading, kill, kill_at, letter};
 use normal_forms::triple_discriminant_of;
-use ring_law::{Field, Frac, Range, Ring};
+use ring_law::{Fault, Field, Frac, Range, Ring};
+use rules_corank2::extend2;
+use rules_corank3::extend3;
 use std::alloc::Global;
 
 // The names of the parts.
@@ -117,6 +124,52 @@ fn are_units<R: Ring>(ring: &R, part: Part, letters: &[R::Elem]) -> Result<bool,
     Ok(are_nonzero(ring, letters, count_of(part)))
 }
 
+// Whether a part is a base part in two variables.
+#[tactic(auto, unfolding(rules_corank2::specs::Parts::is_base2))]
+fn is_base2(part: Part) -> bool
+    ensures { result ≡ is_base2_of part }
+{
+    match part {
+        Part::D4 | Part::D | Part::J | Part::X9 | Part::X | Part::Y | Part::Z | Part::W => true,
+        _ => false,
+    }
+}
+
+// Whether a part is a base part in three variables.
+#[tactic(auto, unfolding(rules_corank3::specs::Parts::is_base3))]
+fn is_base3(part: Part) -> bool
+    ensures { result ≡ is_base3_of part }
+{
+    match part {
+        Part::P8 | Part::Q | Part::S | Part::U | Part::T => true,
+        _ => false,
+    }
+}
+
+// The kill move of a grade of a part for a jet: of a base part its base kill.
+fn kill_of<F: Field>(
+    alloc: Global,
+    field: &F,
+    part: Part,
+    f: &JetOf<F>,
+    grade: u8,
+) -> Result<ChangeOf<F>, Fault>
+    requires ring { F.is_ring field.now }
+    requires jet { IsJet (F.meaning field.now) f.now }
+    requires at_most_8_variables { f.now.n ≤ 8 }
+    requires of_part { length (row part).weights ≤ f.now.n }
+    requires units { let m = F.meaning field.now in HasUnits m.scalars (letters_of f.now.n m.scalars part (polynomial_of m f.now)) part }
+    requires above { (row part).degree < grade }
+{
+    if is_base2(part) {
+        extend2(alloc, field, part, f, grade)
+    } else if is_base3(part) {
+        extend3(alloc, field, part, f, grade)
+    } else {
+        kill(alloc, field, part, f, grade)
+    }
+}
+
 // The kill move of a grade of a part, with the letters that a jet has.
 fn killed<F: Field<Elem = Ext<Frac>> + Drop>(
     alloc: Global,
@@ -136,7 +189,7 @@ fn killed<F: Field<Elem = Ext<Frac>> + Drop>(
     if !are_units(&over.field, part, &[a, b, c])? {
         return Err(Stop::Words);
     }
-    Ok(kill(alloc, &over.field, part, &f, grade)?)
+    Ok(kill_of(alloc, &over.field, part, &f, grade)?)
 }
 
 // The kill move of a grade of a part for a jet, with three letters that the words spell.

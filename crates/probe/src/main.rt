@@ -43,8 +43,8 @@ fn put_answer(alloc: Global, words: &mut Words, out: &mut Vec<u8>) -> Result<(),
         germs::calculate(alloc, command, words, out)
     } else if is(group, b"report") {
         reports::calculate(alloc, command, words, out)
-    } else if is(group, b"ternary") && is(command, b"hessian") {
-        ternary::put_hessian(words, out)
+    } else if is(group, b"ternary") {
+        ternary::calculate(alloc, command, words, out)
     } else {
         scalars::calculate(alloc, group, command, words, out)
     }

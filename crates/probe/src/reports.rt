@@ -3,10 +3,14 @@
 ghost use Rattle.std.specs.Prelude.{◌≡◌, length};
 ghost use Rattle.ring_law.specs.Fraction.{rational_meaning};
 ghost use Rattle.jet_poly.specs.Jets.{IsJet};
+ghost use Rattle.cert_text.specs.WellFormed.{IsWellFormed, IsWellFormedNamed};
 
+use crate::forms::put_line;
 use crate::words::{Stop, Words, is};
 use cert_check::check;
-use cert_text::write_report;
+use cert_text::{Answer, Named, Report, write_report};
+use certificate::{modulus_line, units};
+use ext_algebra::Algebra;
 use line_germ::{Germ, Read, read_line};
 use line_io::MAX_LINE;
 use poly_text::{Name, What, put_name, put_number, write_poly};
@@ -141,6 +145,41 @@ fn put_found(alloc: Global, text: &[u8], out: &mut Vec<u8>) -> Result<(), Stop> 
     Ok(put_finding(out, found)?)
 }
 
+// Appends the modulus line of the jet of a named report over the rational numbers, as the form of its family that it is.
+fn put_modulus_of(alloc: Global, r: &Named, out: &mut Vec<u8>) -> Result<(), Stop>
+    requires { IsWellFormedNamed r.now }
+{
+    let Algebra::Rational = r.carried.algebra else {
+        return Err(Stop::Words);
+    };
+    match units(alloc, r.family, &r.carried)? {
+        None => Err(Stop::Words),
+        Some(_) => put_line(alloc, out, modulus_line(alloc, r.family, &r.carried)?),
+    }
+}
+
+// The same of a report, where it is a named one.
+fn put_modulus_in(alloc: Global, report: &Report, out: &mut Vec<u8>) -> Result<(), Stop>
+    requires { IsWellFormed report.now }
+{
+    match report {
+        Report::Line { line: _, answer } => match answer {
+            Answer::Named(r) => put_modulus_of(alloc, r, out),
+            _ => Err(Stop::Words),
+        },
+        Report::Long { .. } => Err(Stop::Words),
+    }
+}
+
+// Appends the modulus line of the jet of the report that is read from a text.
+fn put_modulus(alloc: Global, text: &[u8], out: &mut Vec<u8>) -> Result<(), Stop> {
+    match read_report(alloc, text) {
+        Ok(report) => put_modulus_in(alloc, &report, out),
+        Err(ReadError::BadText { offset: _ }) => Err(Stop::Words),
+        Err(ReadError::NoMemory) => Err(Stop::NoMemory),
+    }
+}
+
 // Appends what is read of a line that is put together from the next words.
 fn put_repeated(alloc: Global, words: &mut Words, out: &mut Vec<u8>) -> Result<(), Stop> {
     let limit = words.small()?;
@@ -160,6 +199,8 @@ fn put_done(
         put_copy(alloc, &text, out)
     } else if is(command, b"check") {
         put_found(alloc, &text, out)
+    } else if is(command, b"modulus") {
+        put_modulus(alloc, &text, out)
     } else {
         Err(Stop::Words)
     }

@@ -344,5 +344,8 @@ pub(crate) fn calculate(
         n,
         order,
     };
+    if is(group, b"lifted") {
+        return chain::calculate_lifted(alloc, command, &over, words, out);
+    }
     answer_over(alloc, group, command, &over, words, out)
 }

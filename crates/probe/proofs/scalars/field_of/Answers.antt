@@ -1,4 +1,3 @@
-use Rattle.std.proofs.Common.{◌≡◌}
 use Rattle.probe.proofs.Fields.{quadratic_field, cubic_field}
 use Rattle.probe.proofs.scalars.field_of.Goals as goal
 
