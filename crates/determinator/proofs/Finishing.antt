@@ -18,9 +18,9 @@ use Rattle.coord_change.specs.Chains.{ChainParts, carried_in}
 use Rattle.coord_change.specs.MoveJets.{IsJetFor}
 use Rattle.determinacy.specs.declared.row.MatherRow.{MatherRow}
 use Rattle.normal_forms.specs.declared.family.Family.{Family}
-use Rattle.normal_forms.specs.declared.modulus_line.ModulusLine.TheVariants as moduli
 use Rattle.normal_forms.specs.Families.{is_family, kind_of}
-use Rattle.normal_forms.specs.Units.{IsModulus}
+use Rattle.normal_forms.specs.Units.{modulus_heights}
+use Rattle.jet_law.specs.Heights.{IsHigh}
 use Rattle.poly_text.specs.declared.name.Name.{Name}
 use Rattle.cert_text.specs.declared.report.Carried as carried_type
 use Rattle.cert_text.specs.declared.report.Named as named_type
@@ -29,7 +29,7 @@ use Rattle.cert_text.specs.declared.report.Phase.TheVariants as phases
 use Rattle.cert_text.specs.WellFormed.{has_small_numbers, IsFamily}
 use Rattle.jet_quotient.specs.Quotients.{IsQuotientHigh}
 use Rattle.report_law.specs.Polynomials.{terms_in}
-use Rattle.report_law.specs.Items.{coefficients_of, jet_of, residual_of, IsModulusOf}
+use Rattle.report_law.specs.Items.{jet_of, residual_of}
 use Rattle.report_law.proofs.Splitting.{and_both}
 use Rattle.move_law.specs.Algebras as algebras_law
 use Rattle.move_law.specs.Moves.{residual}
@@ -44,7 +44,7 @@ use Rattle.plan_law.specs.Run.{brought, carried_by, composing_pieces, finished, 
 use Rattle.certificate.specs.Readings.{is_read_as}
 use Rattle.determinator.specs.Carried.{with_parts, IsCarriedFrom}
 use Rattle.determinator.specs.Jets.{AreRowsFor}
-use Rattle.determinator.specs.Naming.{family_found, IsNamingOf, IsUnread, IsNamingHigh, answer_by}
+use Rattle.determinator.specs.Naming.{family_found, IsNamingOf, IsUnread, IsNamingByHigh, IsNamingHigh, answer_by}
 use Rattle.determinator.specs.Places.{IsPlace}
 use Rattle.determinator.specs.Reports.{AreNames, IsCarriedGerm, IsReport}
 use Rattle.determinator.specs.declared.naming.Naming.{Naming}
@@ -52,7 +52,7 @@ use Rattle.determinator.proofs.Carrying.{carried_germ, change_planned, jet_plann
 use Rattle.determinator.proofs.Chained
 use Rattle.determinator.proofs.GermReports
 use Rattle.determinator.proofs.Laws
-use Rattle.determinator.proofs.Namings.{IsOfA, found_of_A, simple_of, numbers_of}
+use Rattle.determinator.proofs.Namings.{IsOfA, found_of_A, numbers_of}
 use Rattle.determinator.proofs.Pieces.{among_left, among_right, high_over}
 use Rattle.determinator.proofs.Reporting.{from_parts, unresolved_report}
 use Rattle.determinator.proofs.SplitTests
@@ -140,6 +140,11 @@ module _ (n c last : ℕ) (germ : Polynomial n Rational) (o : ℕ) (moves : List
       among_left _ (inverse_pieces family ++ modulus_pieces_here family) quotient_pieces
       (among_left _ (inverse_pieces family) (modulus_pieces_here family) (high_over phases.Finish Q (map (λ u. work.inverse u) (units_of n s o c family p)) h))
 
+  high_modulus : (family : Family) → IsHigh (modulus_heights (kind_of family) (coefficients_in_plan n s o family p)) → HasHigh phases.Finish (naming_pieces n c germ Q o family p)
+  high_modulus family h =
+      among_left _ (inverse_pieces family ++ modulus_pieces_here family) quotient_pieces
+      (among_right _ (inverse_pieces family) (modulus_pieces_here family) (inl (refl, h)))
+
   high_quotient : (family : Family) → IsQuotientHigh c s o (residual n s c o p) → HasHigh phases.Milnor (naming_pieces n c germ Q o family p)
   high_quotient family h = among_right _ (inverse_pieces family ++ modulus_pieces_here family) quotient_pieces (inl (refl, h))
 
@@ -209,7 +214,7 @@ module _ (n c last : ℕ) (germ : Polynomial n Rational) (o : ℕ) (moves : List
           family = naming.family;
           carried = R;
           units = naming.units;
-          modulus = moduli.None;
+          modulus = naming.modulus;
           milnor = length naming.quotient.basis;
           mather = rows;
           quotient = naming.quotient;
@@ -219,7 +224,7 @@ module _ (n c last : ℕ) (germ : Polynomial n Rational) (o : ℕ) (moves : List
         of_A = found_of_A n s o small_order p c low naming.family (found_there naming.family name.found)
 
         read_here : is_read n s o c naming.family p ≡ true
-        read_here = read_there naming.family true name.units.read
+        read_here = read_there naming.family true name.named.units.read
 
         family_valid : IsFamily naming.family
         unfolding is_read
@@ -227,11 +232,8 @@ module _ (n c last : ℕ) (germ : Polynomial n Rational) (o : ℕ) (moves : List
             and_both (is_family naming.family) (has_small_numbers naming.family)
             (and_left (is_family naming.family) _ (and_left (is_form n s o c naming.family p) _ read_here)) (numbers_of naming.family of_A)
 
-        modulus_true : IsModulusOf report
-        modulus_true = subst (λ k. IsModulus Q k (coefficients_of R naming.family) moduli.None) (sym (simple_of naming.family of_A)) tt
-
         units_planned : map (λ (u : Ext Frac × Ext Frac). (value_in Q u.0, value_in Q u.1)) naming.units ≡ with_inverses n c germ Q (units_of n s o c naming.family p)
-        units_planned = at_plan (λ z w. map (λ (u : Ext Frac × Ext Frac). (value_in Q u.0, value_in Q u.1)) naming.units ≡ map {B = Rational × Rational} (λ v. (v, s.inverse v)) (units_of z s o c naming.family w)) name.units.values
+        units_planned = at_plan (λ z w. map (λ (u : Ext Frac × Ext Frac). (value_in Q u.0, value_in Q u.1)) naming.units ≡ map {B = Rational × Rational} (λ v. (v, s.inverse v)) (units_of z s o c naming.family w)) name.named.units.values
 
         germ_of_parts : IsCarriedGerm names n last germ R
         germ_of_parts = subst (IsCarriedGerm names n last germ) h.is germ_is
@@ -239,7 +241,7 @@ module _ (n c last : ℕ) (germ : Polynomial n Rational) (o : ℕ) (moves : List
         named_parts : IsReport names n last germ (answer_by R rows (Some naming)) (finished n c germ o (searching moves) p)
         named_parts =
             let parts = from_parts names n c Q o moves chain r h in
-            let few_basis = name.quotient.few_in_basis in
+            let few_basis = name.named.quotient.few_in_basis in
             let rows_here = GermReports.rows_reported names n are c last germ Q field o moves chain place_is h.change h.jet_listed parts low rows rows_are in
             record {
               reports = (λ i. Some (outcomes.named naming.family (record { algebra = Q; order = o; corank = c; change = change_planned n c last germ Q o moves chain h.change h.change_is i; form = jet_planned n c last germ Q o moves chain place_is i }) (units_planned i)))
@@ -248,24 +250,24 @@ module _ (n c last : ℕ) (germ : Polynomial n Rational) (o : ℕ) (moves : List
                 well_formed = record {
                   family = family_valid;
                   carried = germ_of_parts.well_formed;
-                  few_units = name.units.few;
-                  units = name.units.elems;
-                  modulus = refl;
+                  few_units = name.named.units.few;
+                  units = name.named.units.elems;
+                  modulus = name.named.modulus.valid;
                   milnor = omega arith;
                   mather = rows_here.well_formed;
-                  basis_nonempty = name.quotient.some_in_basis;
+                  basis_nonempty = name.named.quotient.some_in_basis;
                   few_in_basis = few_basis;
-                  basis = name.quotient.basis;
-                  few_in_table = name.quotient.few_in_table;
-                  table = name.quotient.table;
+                  basis = name.named.quotient.basis;
+                  few_in_table = name.named.quotient.few_in_table;
+                  table = name.named.quotient.table;
                 };
                 carried = germ_of_parts;
                 corank = omega arith;
-                form = name.units.form;
-                units = name.units.units_are report;
-                modulus = modulus_true;
+                form = name.named.units.form;
+                units = name.named.units.units_are report;
+                modulus = name.named.modulus.line_is report;
                 mather = rows_here.each;
-                milnor = name.quotient.table_is report;
+                milnor = name.named.quotient.table_is report;
               };
             }
 
@@ -277,13 +279,16 @@ module _ (n c last : ℕ) (germ : Polynomial n Rational) (o : ℕ) (moves : List
 
     -- ---- what is high
 
-    high_parts : (ph : Phase) → IsNamingHigh R ph → HasHigh ph (finishing_pieces n c germ o (searching moves) p)
-    high_parts _ (IsNamingHigh.by_units family e (inl q)) = high_formula family (found_there family e) (at_plan (λ z w. Among (IsWorkHigh z s) (reading_work z s o c family w)) q)
-    high_parts _ (IsNamingHigh.by_units family e (inr q)) =
+    high_parts : (ph : Phase) (family : Family) → family_found R ≡ Some family → IsNamingByHigh family R ph → HasHigh ph (finishing_pieces n c germ o (searching moves) p)
+    high_parts _ family e (IsNamingByHigh.by_units (inl q)) = high_formula family (found_there family e) (at_plan (λ z w. Among (IsWorkHigh z s) (reading_work z s o c family w)) q)
+    high_parts _ family e (IsNamingByHigh.by_units (inr q)) =
         high_naming phases.Finish family (found_there family e) (read_there family true q.0)
         (high_inverse family (at_plan (λ z w. Among (IsWorkHigh z s) (map (λ u. work.inverse u) (units_of z s o c family w))) q.1))
-    high_parts _ (IsNamingHigh.by_quotient family e b q) =
+    high_parts _ family e (IsNamingByHigh.by_modulus b q) =
+        high_naming phases.Finish family (found_there family e) (read_there family true b)
+        (high_modulus family (at_plan (λ z w. IsHigh (modulus_heights (kind_of family) (coefficients_in_plan z s o family w))) q))
+    high_parts _ family e (IsNamingByHigh.by_quotient b q) =
         high_naming phases.Milnor family (found_there family e) (read_there family true b) (high_quotient family (subst (IsQuotientHigh c s o) residual_same q))
 
     pub high_by : (ph : Phase) → IsNamingHigh r ph → HasHigh ph (finishing_pieces n c germ o (searching moves) p)
-    high_by ph q = high_parts ph (subst (λ (x : carried_type.Carried). IsNamingHigh x ph) h.is q)
+    high_by ph q = let at = subst (λ (x : carried_type.Carried). IsNamingHigh x ph) h.is q in high_parts ph at.0 at.1 at.2

@@ -1,6 +1,8 @@
 -- The family that the finish without a part looks for: one of the series A, with a small number.
 use Rattle.std.proofs.Common.{◌≡◌, ℕ, zero, suc, ◌+◌, ◌-◌, ◌<◌, ◌≤◌, Bool, true, false, cond, Option, Some, None, List, [], ◌∷◌, filter, nat_le, lt-ltb, leb-true, refl, sym, ap, ap₂, subst, ◌∙◌, arith}
 use Rattle.ring_theory.specs.Scalars.{Scalars}
+use Rattle.ext_algebra.specs.declared.algebra.Algebra.{Algebra}
+use Rattle.ext_algebra.specs.declared.algebra.Algebra.TheVariants as algebras
 use Rattle.ext_algebra.specs.Algebra.{scalars, value_in}
 use Rattle.poly_law.specs.Polynomials.{Polynomial}
 use Rattle.mono_exp.specs.Exponents.{numbers_below}
@@ -17,6 +19,7 @@ use Rattle.report_jet.proofs.ReportJets.{terms_in-poly_of}
 use Rattle.kill_law.specs.Kill.{first}
 use Rattle.move_law.specs.Moves.{is_there, power_exponents}
 use Rattle.move_law.specs.Finish.{finish, from_to, least}
+use Rattle.certificate.specs.Moduli.{IsRationalForm}
 use Rattle.determinator.specs.Naming.{family_found}
 
 -- the first that passes a test is one of the list
@@ -80,6 +83,17 @@ simple_of family h = subst (λ x. kind_of x ≡ kinds.Simple) (sym h.is) refl
 
 pub numbers_of : (family : Family) → IsOfA family → has_small_numbers family ≡ true
 numbers_of family h = subst (λ x. has_small_numbers x ≡ true) (sym h.is) (lt-ltb h.number 256 h.small)
+
+-- such a form has no j invariant
+simple_rational : (a : Algebra) → IsRationalForm a kinds.Simple
+simple_rational algebras.Rational = tt
+simple_rational (algebras.Quadratic m1 m0) = tt
+simple_rational (algebras.Cubic m2 m1 m0) = tt
+simple_rational (algebras.Tower m2 m1 m0 d) = tt
+
+pub found_rational : (c : Carried) → c.order ≤ 16 → c.corank ≤ 3 → (family : Family) → family_found c ≡ Some family → IsRationalForm c.algebra (kind_of family)
+found_rational c small low family e =
+    subst (IsRationalForm c.algebra) (sym (simple_of family (found_of_A (variables_of c) (scalars c.algebra) c.order small (jet_of c) c.corank low family e))) (simple_rational c.algebra)
 
 -- ---- what the code looks for
 

@@ -17,7 +17,6 @@ use cert_text::{Answer, Carried, Named, Phase, Unresolved};
 use coord_change::Chain;
 use determinacy::MatherRow;
 use ext_algebra::{Algebra, Ext};
-use normal_forms::ModulusLine;
 use poly_text::Name;
 use ring_law::Frac;
 use sqlite_items::Items;
@@ -67,7 +66,7 @@ fn named_by(naming: Option<Naming>, carried: Carried, rows: Items<MatherRow<Ext<
             family: naming.family,
             carried,
             units: naming.units,
-            modulus: ModulusLine::None,
+            modulus: naming.modulus,
             milnor: naming.quotient.basis.len() as u32,
             mather: rows,
             quotient: naming.quotient,

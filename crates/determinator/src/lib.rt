@@ -25,7 +25,7 @@ pub use jet::{residual_part, squares_of};
 pub use killing::kill_next;
 pub use lifting::{lift_change, lift_jet};
 pub use line::classify;
-pub use naming::{Naming, family_found, naming_of};
+pub use naming::{Naming, family_found, naming_by, naming_of};
 pub use power::least_power;
 pub use run::answer_to_germ;
 pub use splitting::split_next;
