@@ -1,7 +1,0 @@
--- Lists of names are the same where each name is.
-use Rattle.std.proofs.Common.{rules}
-use Rattle.std.proofs.lemmas.Slice.Eq.{slice_eq-Decides}
-use Rattle.check_line.proofs.shape.are_same_names.Goals as goal
-
-pub returns : goal.returns
-returns c = slice_eq-Decides (λ a b. search rules) c.args.a.now c.args.b.now c.eq.result c.eq.ensures
