@@ -13,3 +13,5 @@ pub mod FinishHeights
 pub mod FinishKills
 pub mod FinishMoves
 pub mod FinishPuts
+pub mod PlaneMatrices
+pub mod BinaryMoves

@@ -7,3 +7,4 @@ pub mod Ordered
 pub mod Puts
 pub mod Tails
 pub mod Regular
+pub mod Planes
